@@ -1,0 +1,10 @@
+pub mod Limits
+pub mod Receipt
+pub mod Refusals
+pub mod Runs
+pub mod Roll
+pub mod Plane
+pub mod Axes
+pub mod Query
+pub mod Selection
+pub mod Verdict

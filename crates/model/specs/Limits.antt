@@ -1,0 +1,14 @@
+-- Each limit of the product, once.
+use Prim.Native.Nat.{ℕ}
+
+-- the most elements of a receipt
+abbrev pub most-elements : ℕ
+most-elements = 256
+
+-- the greatest label; the least is 1
+abbrev pub most-label : ℕ
+most-label = 250
+
+-- the depth at which nothing more opens
+abbrev pub most-depth : ℕ
+most-depth = 16

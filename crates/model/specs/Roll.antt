@@ -1,0 +1,31 @@
+-- The roll of a receipt: the bytes that tell it.
+use mathlib.Core.List.{List, [], _∷_, _++_, map}
+use Prim.Native.Nat.{ℕ, zero, suc, _+_, _*_, _/_, _%_, _^_}
+use Rattle.model.specs.Receipt.{Element, Receipt, countOf}
+
+-- a number in w bytes, the high byte first
+abbrev pub bigEndian : ℕ → ℕ → List ℕ
+bigEndian zero n = []
+bigEndian (suc w) n = ((n / (256 ^ w)) % 256) ∷ bigEndian w n
+
+abbrev pub edition : ℕ
+edition = 1
+
+abbrev pub header-length : ℕ
+header-length = 8
+
+abbrev pub rollLength : ℕ → ℕ
+rollLength n = header-length + 2 * n
+
+abbrev pub levels : List Element → List ℕ
+levels es = map (λ (e : Element). e .level) es
+
+abbrev pub labels : List Element → List ℕ
+labels es = map (λ (e : Element). e .label) es
+
+-- edition, depth, count, where the levels begin, where the labels begin
+abbrev pub header : ℕ → ℕ → List ℕ
+header d n = edition ∷ d ∷ (bigEndian 2 n ++ (bigEndian 2 header-length ++ bigEndian 2 (header-length + n)))
+
+abbrev pub rollOf : Receipt → List ℕ
+rollOf r = header (r .depth) (countOf r) ++ (levels (r .elements) ++ labels (r .elements))
