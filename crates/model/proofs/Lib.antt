@@ -1,3 +1,5 @@
 pub mod Search
 pub mod Relatives
+pub mod Bounds
 pub mod Opening
+pub mod Runs

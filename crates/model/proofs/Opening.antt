@@ -14,14 +14,11 @@ use Rattle.std.specs.declared.option.Option.{Option}
 use Rattle.std.specs.declared.option.Option.the-variants.{Some, None}
 use Rattle.model.specs.Receipt.{Element, Receipt, Lawful, within, absent, countOf, levelAt, labelAt, nearest, parentOf, firstChildOf, nextSiblingOf, previousSiblingOf, lastWhere, firstWhere, sameRank, innermost, lastInside, opened}
 use Rattle.model.specs.Limits.{most-elements, most-label, most-depth}
-use Rattle.model.proofs.Relatives.{parent-some}
+use Rattle.model.proofs.Relatives.{inside, parent-some}
 use Rattle.model.proofs.Search.{last-cong, last-none, last-is, last-some, last-none-all, first-cong, first-none, first-more, first-new, first-same, apart-rank, same-rank}
 
 abbrev fresh : Receipt → ℕ → Element
 fresh r l = record { label = l; level = r .depth }
-
-pub inside : (r : Receipt) (i : ℕ) (o : Option ℕ) → i < countOf r → within r i o ≡ o
-inside r i o h = cond-true (ltb i (countOf r)) o None (lt-ltb i (countOf r) h)
 
 same-parts : (a b : Option ℕ) → sameRank a b ≡ true → (x : ℕ) × (a ≡ Some x) × (b ≡ Some x)
 same-parts None b e = let z : _≡_ {A = ℕ} 0 1 = cc in absurd (omega arith)

@@ -4,11 +4,16 @@ use mathlib.Core.Logic.{_⊎_, inl, inr, ⊎-elim}
 use Prim.Native.Nat.{ℕ, zero, suc, _+_, _-_, _≤_, _<_}
 use native.Mathlib.Omega.{arith}
 use native.Mathlib.Numerals.{add-one}
-use Rattle.std.proofs.shelf.Tests.{cases-eq}
+use lib.Dec.{ltb}
+use Rattle.std.proofs.shelf.Tests.{cases-eq, cond-true, lt-ltb}
 use Rattle.std.proofs.shelf.Ways.{tells}
 use Rattle.std.specs.declared.option.Option.{Option}
 use Rattle.std.specs.declared.option.Option.the-variants.{Some, None}
-use Rattle.model.specs.Receipt.{Receipt, Lawful, countOf, levelAt, nearest, parentOf}
+use Rattle.model.specs.Receipt.{Receipt, Lawful, within, countOf, levelAt, nearest, parentOf}
+
+-- An answer at an element is that answer.
+pub inside : (r : Receipt) (i : ℕ) (o : Option ℕ) → i < countOf r → within r i o ≡ o
+inside r i o h = cond-true (ltb i (countOf r)) o None (lt-ltb i (countOf r) h)
 
 pub nearest-some : (r : Receipt) (v k p : ℕ) → nearest (r .elements) v k ≡ Some p → (p < k) × (levelAt r p + 1 ≡ v)
 unfolding nearest

@@ -72,6 +72,10 @@ pub apart-rank : (a : Option ℕ) (b : ℕ) → (a ≡ Some b → ⊥) → sameR
 apart-rank None b h = refl
 apart-rank (Some a) b h = ne-eqb a b (λ e. h (ap Some e))
 
+pub same-is : (a : Option ℕ) (b : ℕ) → sameRank a (Some b) ≡ true → a ≡ Some b
+same-is None b e = let z : _≡_ {A = ℕ} 0 1 = cc in absurd (omega arith)
+same-is (Some a) b e = ap Some (eqb-true a b e)
+
 pub same-rank : (a : Option ℕ) (b : ℕ) → a ≡ Some b → sameRank a (Some b) ≡ true
 same-rank a b e = rw e (eq-eqb b b refl)
 
@@ -102,3 +106,15 @@ found f (suc n) q h t e = ⊎-elim
 
 pub last-none-all : (f : ℕ → Bool) (n : ℕ) → lastWhere f n ≡ None → (j : ℕ) → j < n → f j ≡ false
 last-none-all f n e j h = ⊎-elim (λ (t : f j ≡ true). absurd (found f n j h t e)) (λ t. t) (cases-bool (f j))
+
+pub first-some : (f : ℕ → Bool) (n q : ℕ) → firstWhere f n ≡ Some q → (q < n) × (f q ≡ true)
+unfolding firstWhere
+first-some f zero q e = let z : _≡_ {A = ℕ} 0 1 = cc in absurd (omega arith)
+first-some f (suc n) q e = step (first-some f n q) (firstWhere f n) refl e
+  where
+    step : (firstWhere f n ≡ Some q → (q < n) × (f q ≡ true)) → (o : Option ℕ) → firstWhere f n ≡ o → orElse o (cond (f n) (Some n) None) ≡ Some q → (q < suc n) × (f q ≡ true)
+    step found (Some p) h k = let m : firstWhere f n ≡ Some q = cc in let ih = found m in (omega arith, ih .1)
+    step found None h k = ⊎-elim
+        (λ (t : f n ≡ true). let m : n ≡ q = (let z : Some n ≡ Some q = sym (cond-true (f n) (Some n) None t) ∙ k in cc) in (omega arith, (let u : f q ≡ true = cc in u)))
+        (λ (t : f n ≡ false). let z : None ≡ Some q = sym (cond-false (f n) (Some n) None t) ∙ k in let x : _≡_ {A = ℕ} 0 1 = cc in absurd (omega arith))
+        (cases-bool (f n))
