@@ -3,3 +3,4 @@ pub mod Relatives
 pub mod Bounds
 pub mod Opening
 pub mod Runs
+pub mod Rolls

@@ -55,7 +55,7 @@ first-found f (suc n) q h t = ⊎-elim
     (λ ne. let ih = first-found f n q (omega arith) t in (ih .0, rw (ih .1) refl))
     (cases-eq q n)
 
--- Where one nearest n passes, one more place changes absent.
+-- Where one below n passes already, one more place changes nothing.
 pub first-more : (f : ℕ → Bool) (n q : ℕ) → q < n → f q ≡ true → firstWhere f (suc n) ≡ firstWhere f n
 unfolding firstWhere
 first-more f n q h t = let s = first-found f n q h t in rw (s .1) refl

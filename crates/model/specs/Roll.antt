@@ -1,12 +1,19 @@
 -- The roll of a receipt: the bytes that tell it.
 use mathlib.Core.List.{List, [], _∷_, _++_, map}
-use Prim.Native.Nat.{ℕ, zero, suc, _+_, _*_, _/_, _%_, _^_}
+use Prim.Native.Nat.{ℕ, zero, suc, _+_, _*_, _/_, _%_}
+use mathlib.Core.Bool.{cond}
+use lib.ListN.{length, drop}
+use lib.Dec.{ltb}
+use Rattle.std.specs.declared.result.Result.{Result}
+use Rattle.std.specs.declared.result.Result.the-variants.{Ok, Err}
+use Rattle.model.specs.declared.fault.RollFault.{RollFault}
+use Rattle.model.specs.declared.fault.RollFault.the-variants.{ShortMemory}
 use Rattle.model.specs.Receipt.{Element, Receipt, countOf}
 
 -- a number in w bytes, the high byte first
 abbrev pub bigEndian : ℕ → ℕ → List ℕ
 bigEndian zero n = []
-bigEndian (suc w) n = ((n / (256 ^ w)) % 256) ∷ bigEndian w n
+bigEndian (suc w) n = bigEndian w (n / 256) ++ ((n % 256) ∷ [])
 
 abbrev pub edition : ℕ
 edition = 1
@@ -27,5 +34,13 @@ labels es = map (λ (e : Element). e .label) es
 abbrev pub header : ℕ → ℕ → List ℕ
 header d n = edition ∷ d ∷ (bigEndian 2 n ++ (bigEndian 2 header-length ++ bigEndian 2 (header-length + n)))
 
-abbrev pub rollOf : Receipt → List ℕ
+unfoldable pub rollOf : Receipt → List ℕ
 rollOf r = header (r .depth) (countOf r) ++ (levels (r .elements) ++ labels (r .elements))
+
+-- the outcome of writing into memory: the roll's length, or the refusal
+abbrev pub writing : Receipt → List ℕ → Result ℕ RollFault
+writing r memory = cond (ltb (length memory) (rollLength (countOf r))) (Err ShortMemory) (Ok (rollLength (countOf r)))
+
+-- Memory past the roll stays, and all of it where it is too short.
+abbrev pub memoryAfter : Receipt → List ℕ → List ℕ
+memoryAfter r memory = cond (ltb (length memory) (rollLength (countOf r))) memory (rollOf r ++ drop (rollLength (countOf r)) memory)

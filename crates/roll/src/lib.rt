@@ -1,0 +1,2 @@
+// Rolls: the bytes by which a receipt is kept on paper.
+pub mod write;
