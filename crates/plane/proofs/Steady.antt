@@ -1,0 +1,96 @@
+-- Relations between present elements stay as a receipt goes on, and a new element is reached only where the axis may grow.
+use mathlib.Core.Path.{_≡_, refl, sym, ap, _∙_}
+use mathlib.Core.Bool.{Bool, true, false, cond, _&&_, _||_, not}
+use mathlib.Core.Logic.{_⊎_, inl, inr, ⊎-elim}
+use Prim.Native.Nat.{ℕ, zero, suc, _+_, _-_, _≤_, _<_}
+use native.Mathlib.Omega.{arith}
+use lib.Dec.{eqb, ltb}
+use Rattle.std.specs.Orderings.{Decides}
+use Rattle.std.proofs.shelf.Ways.{same-from-decides, not-from-decides, tells}
+use Rattle.std.proofs.shelf.Tests.{cases-eq, cases-lt, cases-bool, both-ways, ltb-true, lt-ltb, le-ltb, and-parts, and-from, and-left, and-right, and-cases, or-cases, or-from, or-left, or-right, eq-eqb, eqb-true, ne-eqb, not-false}
+use Rattle.std.specs.declared.option.Option.{Option}
+use Rattle.std.specs.declared.option.Option.the-variants.{Some, None}
+use Rattle.model.specs.declared.axis.Axis.{Axis}
+use Rattle.model.specs.declared.axis.Axis.the-variants.{Itself, Child, Parent, Descendant, Ancestor, DescendantOrSelf, AncestorOrSelf, FollowingSibling, PrecedingSibling, Following, Preceding}
+use Rattle.model.specs.Receipt.{Receipt, Lawful, countOf, levelAt, parentOf, sameRank, hasEnded, opened, closed}
+use Rattle.model.specs.Plane.{isAncestor, descends, follows, isChild, isLaterSibling, isOpen, isOpenAt}
+use Rattle.model.specs.Axes.{leads, inverse, isForward, isBackward, grows}
+use Rattle.model.specs.Runs.{openingFault, closingFault}
+use Rattle.model.proofs.Opening.{level-old, level-new, parent-old, count-more}
+use Rattle.model.proofs.Relatives.{parent-some}
+use Rattle.plane.proofs.Below.{Below, parent-below, ancestor-is}
+use Rattle.plane.proofs.Block.{descends-is, follows-is, first-above, level-later}
+use Rattle.plane.proofs.Lawfully.{Openable, openable, opening-lawful, closing-lawful}
+use Rattle.plane.proofs.Unchanged.{Agree, leads-agrees, agree-closed}
+
+false-unless : (b : Bool) → (b ≡ true → ⊥) → b ≡ false
+false-unless b h = ⊎-elim (λ t. absurd (h t)) (λ t. t) (cases-bool b)
+
+-- x is open: its level is below the depth and below all later levels.
+abbrev pub Opens : Receipt → ℕ → Type 0
+Opens r x = (levelAt r x < r .depth) × ((k : ℕ) → x < k → k < countOf r → levelAt r x < levelAt r k)
+
+pub open-is : (r : Receipt) → Lawful r → (x : ℕ) → x < countOf r → Decides (isOpen r x) (Opens r x)
+unfolding isOpen
+open-is r w x h = (
+  (λ t.
+      let s = and-parts (eqb (x + 1) (countOf r) || isAncestor r x (countOf r - 1)) _ t in (
+        ltb-true (levelAt r x) (r .depth) (s .1),
+        λ k a b. ⊎-elim
+            (λ q. let z = eqb-true (x + 1) (countOf r) q in absurd (omega arith))
+            (λ q. ancestor-is r w x (countOf r - 1) (omega arith) .0 q .1 k a (omega arith))
+            (or-cases (eqb (x + 1) (countOf r)) _ (s .0)),
+      )),
+  (λ o. and-from (eqb (x + 1) (countOf r) || isAncestor r x (countOf r - 1)) _
+      (⊎-elim (λ q. or-left (eqb (x + 1) (countOf r)) _ (eq-eqb (x + 1) (countOf r) q))
+      (λ q. or-right (eqb (x + 1) (countOf r)) _ (ancestor-is r w x (countOf r - 1) (omega arith) .1 (omega arith, λ k a b. o .1 k a (omega arith))))
+      (cases-eq (x + 1) (countOf r)))
+      (lt-ltb (levelAt r x) (r .depth) (o .0))),
+)
+
+module _ (r : Receipt) (l : ℕ) where
+  below-old : (x y : ℕ) → y < countOf r → Below r x y → Below (opened r l) x y
+  below-old x y h b = (b .0, λ k a c. let t = b .1 k a c in let p = b .0 in let u = level-old r l x (omega arith) in let v = level-old r l k (omega arith) in omega arith)
+
+  below-kept : (x y : ℕ) → y < countOf r → Below (opened r l) x y → Below r x y
+  below-kept x y h b = (b .0, λ k a c. let t = b .1 k a c in let p = b .0 in let u = level-old r l x (omega arith) in let v = level-old r l k (omega arith) in omega arith)
+
+  -- Below the new element's ancestors are exactly the open elements.
+  pub below-new-open : (x : ℕ) → x < countOf r → Below (opened r l) x (countOf r) → Opens r x
+  below-new-open x h b =
+      let u = level-old r l x h in
+      let d = b .1 (countOf r) h (omega arith) in
+      let v = level-new r l in
+      (omega arith, λ k a c. let t = b .1 k a (omega arith) in let z = level-old r l k c in omega arith)
+
+  pub open-below-new : (x : ℕ) → x < countOf r → Opens r x → Below (opened r l) x (countOf r)
+  open-below-new x h o = (
+    h,
+    λ k a c. ⊎-elim
+        (λ (q : k ≡ countOf r). let e = ap (levelAt (opened r l)) q in let v = level-new r l in let u = level-old r l x h in let d = o .0 in omega arith)
+        (λ ne. let u = level-old r l x h in let z = level-old r l k (omega arith) in let d = o .1 k a (omega arith) in omega arith)
+        (cases-eq k (countOf r)),
+  )
+
+module _ (r : Receipt) (l : ℕ) (w : Lawful r) (f : openingFault l r ≡ None) where
+  agree-opened : (x y : ℕ) → x < countOf r → y < countOf r → Agree r (opened r l) x y
+  agree-opened x y h k =
+      let w′ = opening-lawful r l w f in
+      let m = count-more r l in
+      let d = descends-is (opened r l) w′ x y (omega arith) in
+      let e = follows-is (opened r l) w′ x y (omega arith) in
+      record {
+        here = level-old r l x h;
+        there = level-old r l y k;
+        below = same-from-decides _ _ (λ t. below-kept r l x y k (d .0 t), λ b. d .1 (below-old r l x y k b)) (descends-is r w x y k);
+        later = ap (λ p. sameRank p (parentOf (opened r l) x) && ltb x y) (parent-old r l y k) ∙ ap (λ p. sameRank (parentOf r y) p && ltb x y) (parent-old r l x h);
+        following = same-from-decides _ _
+            (λ t. (let s = e .0 t in (s .0, λ b. s .1 (below-old r l x y k b))), λ s. e .1 (s .0, λ b. s .1 (below-kept r l x y k b)))
+            (follows-is r w x y k);
+      }
+
+pub leads-opened : (r : Receipt) (l : ℕ) → Lawful r → openingFault l r ≡ None → (a : Axis) (x y : ℕ) → x < countOf r → y < countOf r → leads (opened r l) a x y ≡ leads r a x y
+leads-opened r l w f a x y h k = leads-agrees r (opened r l) a x y (agree-opened r l w f x y h k) (agree-opened r l w f y x k h)
+
+pub leads-closed : (r : Receipt) (a : Axis) (x y : ℕ) → leads (closed r) a x y ≡ leads r a x y
+leads-closed r a x y = leads-agrees r (closed r) a x y (agree-closed r x y) (agree-closed r y x)
