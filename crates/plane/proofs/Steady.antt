@@ -7,7 +7,7 @@ use native.Mathlib.Omega.{arith}
 use lib.Dec.{eqb, ltb}
 use Rattle.std.specs.Orderings.{Decides}
 use Rattle.std.proofs.shelf.Ways.{same-from-decides, not-from-decides, tells}
-use Rattle.std.proofs.shelf.Tests.{cases-eq, cases-lt, cases-bool, both-ways, ltb-true, lt-ltb, le-ltb, and-parts, and-from, and-left, and-right, and-cases, or-cases, or-from, or-left, or-right, eq-eqb, eqb-true, ne-eqb, not-false}
+use Rattle.std.proofs.shelf.Tests.{cases-eq, cases-lt, cases-bool, both-ways, ltb-true, lt-ltb, le-ltb, and-parts, and-from, and-left, and-right, and-cases, or-cases, or-from, or-left, or-right, eq-eqb, eqb-true, ne-eqb, not-false, false≢true}
 use Rattle.std.specs.declared.option.Option.{Option}
 use Rattle.std.specs.declared.option.Option.the-variants.{Some, None}
 use Rattle.model.specs.declared.axis.Axis.{Axis}
@@ -94,3 +94,94 @@ leads-opened r l w f a x y h k = leads-agrees r (opened r l) a x y (agree-opened
 
 pub leads-closed : (r : Receipt) (a : Axis) (x y : ℕ) → leads (closed r) a x y ≡ leads r a x y
 leads-closed r a x y = leads-agrees r (closed r) a x y (agree-closed r x y) (agree-closed r y x)
+
+-- What is shut stays shut.
+shut-opened : (r : Receipt) (l : ℕ) → Lawful r → openingFault l r ≡ None → (x : ℕ) → x < countOf r → isOpen r x ≡ false → isOpen (opened r l) x ≡ false
+shut-opened r l w f x h e = false-unless _ (λ t.
+    let m = count-more r l in
+    let o = open-is (opened r l) (opening-lawful r l w f) x (omega arith) .0 t in
+    both-ways _ e (open-is r w x h .1 (below-new-open r l x h (h, λ k a b. o .1 k a (omega arith)))))
+
+shut-closed : (r : Receipt) → Lawful r → (x : ℕ) → x < countOf r → isOpen r x ≡ false → isOpen (closed r) x ≡ false
+shut-closed r w x h e = false-unless _ (λ t.
+    let o = open-is (closed r) (closing-lawful r w) x h .0 t in
+    let d = o .0 in
+    both-ways _ e (open-is r w x h .1 (omega arith, o .1)))
+
+-- An axis grows only through open elements no later than where it starts.
+grows-by : (r s : Receipt) (x : ℕ) → parentOf s x ≡ parentOf r x → ((y : ℕ) → y ≤ x → isOpen r y ≡ false → isOpen s y ≡ false) → (a : Axis) → grows r a x ≡ false → grows s a x ≡ false
+unfolding grows
+grows-by r s x p shut Itself e = refl
+grows-by r s x p shut Child e = shut x (omega arith) e
+grows-by r s x p shut Parent e = refl
+grows-by r s x p shut Descendant e = shut x (omega arith) e
+grows-by r s x p shut Ancestor e = refl
+grows-by r s x p shut DescendantOrSelf e = shut x (omega arith) e
+grows-by r s x p shut AncestorOrSelf e = refl
+grows-by r s x p shut FollowingSibling e = ap (isOpenAt s) p ∙ parent-shut (parentOf r x) refl e
+  where
+    parent-shut : (o : Option ℕ) → parentOf r x ≡ o → isOpenAt r o ≡ false → isOpenAt s o ≡ false
+    parent-shut None q e = refl
+    parent-shut (Some y) q e = let b = parent-some r x y q in shut y (omega arith) e
+grows-by r s x p shut PrecedingSibling e = refl
+grows-by r s x p shut Following e = ⊎-elim (λ q. and-left (not (eqb x 0)) _ q) (λ q. and-right (not (eqb x 0)) _ (shut 0 (omega arith) q)) (and-cases (not (eqb x 0)) (isOpen r 0) e)
+grows-by r s x p shut Preceding e = refl
+
+pub grows-opened : (r : Receipt) (l : ℕ) → Lawful r → openingFault l r ≡ None → (a : Axis) (x : ℕ) → x < countOf r → grows r a x ≡ false → grows (opened r l) a x ≡ false
+grows-opened r l w f a x h e = grows-by r (opened r l) x (parent-old r l x h) (λ y b. shut-opened r l w f y (omega arith)) a e
+
+pub grows-closed : (r : Receipt) → Lawful r → closingFault r ≡ None → (a : Axis) (x : ℕ) → x < countOf r → grows r a x ≡ false → grows (closed r) a x ≡ false
+grows-closed r w f a x h e = grows-by r (closed r) x refl (λ y b. shut-closed r w y (omega arith)) a e
+
+ended-shut : (r : Receipt) → hasEnded r ≡ true → (x : ℕ) → isOpen r x ≡ false
+unfolding isOpen
+ended-shut r e x = let z = eqb-true (r .depth) 0 (and-parts (ltb 0 (countOf r)) _ e .1) in and-right _ _ (le-ltb (levelAt r x) (r .depth) (omega arith))
+
+pub grows-ended : (r : Receipt) → Lawful r → hasEnded r ≡ true → (a : Axis) (x : ℕ) → x < countOf r → grows r a x ≡ false
+unfolding grows
+grows-ended r w e Itself x h = refl
+grows-ended r w e Child x h = ended-shut r e x
+grows-ended r w e Parent x h = refl
+grows-ended r w e Descendant x h = ended-shut r e x
+grows-ended r w e Ancestor x h = refl
+grows-ended r w e DescendantOrSelf x h = ended-shut r e x
+grows-ended r w e AncestorOrSelf x h = refl
+grows-ended r w e FollowingSibling x h = none-shut (parentOf r x)
+  where
+    none-shut : (o : Option ℕ) → isOpenAt r o ≡ false
+    none-shut None = refl
+    none-shut (Some y) = ended-shut r e y
+grows-ended r w e PrecedingSibling x h = refl
+grows-ended r w e Following x h = and-right (not (eqb x 0)) _ (ended-shut r e 0)
+grows-ended r w e Preceding x h = refl
+
+pub backward-never-grows : (r : Receipt) (a : Axis) (x : ℕ) → isBackward a ≡ true → grows r a x ≡ false
+unfolding grows
+backward-never-grows r Itself x e = refl
+backward-never-grows r Child x e = absurd (false≢true e)
+backward-never-grows r Parent x e = refl
+backward-never-grows r Descendant x e = absurd (false≢true e)
+backward-never-grows r Ancestor x e = refl
+backward-never-grows r DescendantOrSelf x e = absurd (false≢true e)
+backward-never-grows r AncestorOrSelf x e = refl
+backward-never-grows r FollowingSibling x e = absurd (false≢true e)
+backward-never-grows r PrecedingSibling x e = refl
+backward-never-grows r Following x e = absurd (false≢true e)
+backward-never-grows r Preceding x e = refl
+
+eqb-swap : (x y : ℕ) → eqb x y ≡ eqb y x
+eqb-swap x y = grind (arith, tells)
+
+pub leads-inverse : (r : Receipt) (a : Axis) (x y : ℕ) → leads r (inverse a) x y ≡ leads r a y x
+unfolding leads
+leads-inverse r Itself x y = eqb-swap x y
+leads-inverse r Child x y = refl
+leads-inverse r Parent x y = refl
+leads-inverse r Descendant x y = refl
+leads-inverse r Ancestor x y = refl
+leads-inverse r DescendantOrSelf x y = ap (λ b. b || descends r y x) (eqb-swap x y)
+leads-inverse r AncestorOrSelf x y = ap (λ b. b || descends r x y) (eqb-swap x y)
+leads-inverse r FollowingSibling x y = refl
+leads-inverse r PrecedingSibling x y = refl
+leads-inverse r Following x y = refl
+leads-inverse r Preceding x y = refl
