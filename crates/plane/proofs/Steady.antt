@@ -20,7 +20,8 @@ use Rattle.model.proofs.Opening.{level-old, level-new, parent-old, count-more}
 use Rattle.model.proofs.Relatives.{parent-some}
 use Rattle.plane.proofs.Below.{Below, parent-below, ancestor-is}
 use Rattle.plane.proofs.Block.{descends-is, follows-is, first-above, level-later}
-use Rattle.plane.proofs.Lawfully.{Openable, openable, opening-lawful, closing-lawful}
+use Rattle.plane.proofs.Lawfully.{Openable, openable}
+pub use Rattle.plane.proofs.Lawfully.{opening-lawful, closing-lawful, empty-lawful, after-one-lawful, after-lawful}
 use Rattle.plane.proofs.Unchanged.{Agree, leads-agrees, agree-closed}
 
 false-unless : (b : Bool) → (b ≡ true → ⊥) → b ≡ false
@@ -185,3 +186,63 @@ leads-inverse r FollowingSibling x y = refl
 leads-inverse r PrecedingSibling x y = refl
 leads-inverse r Following x y = refl
 leads-inverse r Preceding x y = refl
+
+-- Where an axis does not grow, it does not lead to the element that an opening appends.
+module _ (r : Receipt) (l : ℕ) (w : Lawful r) (f : openingFault l r ≡ None) (x : ℕ) (h : x < countOf r) where
+  apart : eqb x (countOf r) ≡ false
+  apart = ne-eqb x (countOf r) (λ e. omega arith)
+
+  -- nothing earlier is after it
+  none-after : (b : Bool) → (ltb (countOf r) x && b) ≡ false
+  none-after b = and-left (ltb (countOf r) x) b (le-ltb (countOf r) x (omega arith))
+
+  fresh-lawful : Lawful (opened r l)
+  fresh-lawful = opening-lawful r l w f
+
+  fresh-counts : countOf r < countOf (opened r l)
+  fresh-counts = let m = count-more r l in omega arith
+
+  not-below-new : isOpen r x ≡ false → descends (opened r l) x (countOf r) ≡ false
+  not-below-new e = false-unless _ (λ t. both-ways _ e (open-is r w x h .1 (below-new-open r l x h (descends-is (opened r l) fresh-lawful x (countOf r) fresh-counts .0 t))))
+
+  no-sibling-new : (o q : Option ℕ) → parentOf (opened r l) (countOf r) ≡ o → isOpenAt r q ≡ false → sameRank o q ≡ false
+  no-sibling-new None q u e = refl
+  no-sibling-new (Some p) None u e = refl
+  no-sibling-new (Some p) (Some y) u e = ne-eqb p y (λ (m : p ≡ y).
+      let s = parent-some (opened r l) (countOf r) p u in
+      let o = open-is r w p (s .1) .1 (below-new-open r l p (s .1) (parent-below (opened r l) fresh-lawful (countOf r) p u)) in
+      both-ways _ e (ap (isOpen r) (sym m) ∙ o))
+
+  -- Before the end the first element is open, and all others are below it.
+  first-open : isOpen r 0 ≡ true
+  first-open =
+      let o = openable l r f in
+      let d = o .live (omega arith) in
+      let z = w .first (omega arith) in
+      open-is r w 0 (omega arith) .1 (omega arith, λ k a b. let v = level-later r w k a b in omega arith)
+
+  not-after-new : (not (eqb x 0) && isOpen r 0) ≡ false → follows (opened r l) x (countOf r) ≡ false
+  not-after-new e = ⊎-elim
+      (λ q. let z : x ≡ 0 = eqb-true x 0 (not-false (eqb x 0) q) in
+      false-unless _ (λ t. follows-is (opened r l) fresh-lawful x (countOf r) fresh-counts .0 t .1 (rw z (first-above (opened r l) fresh-lawful (countOf r) (omega arith) fresh-counts))))
+      (λ q. absurd (both-ways _ q first-open))
+      (and-cases (not (eqb x 0)) (isOpen r 0) e)
+
+  leads-none : (a : Axis) → grows r a x ≡ false → leads (opened r l) a x (countOf r) ≡ false
+  unfolding leads grows
+  leads-none Itself e = apart
+  leads-none Child e = and-left (descends (opened r l) x (countOf r)) _ (not-below-new e)
+  leads-none Parent e = and-left (descends (opened r l) (countOf r) x) _ (none-after _)
+  leads-none Descendant e = not-below-new e
+  leads-none Ancestor e = none-after _
+  leads-none DescendantOrSelf e = or-from (eqb x (countOf r)) _ apart (not-below-new e)
+  leads-none AncestorOrSelf e = or-from (eqb x (countOf r)) _ apart (none-after _)
+  leads-none FollowingSibling e =
+      and-left (sameRank (parentOf (opened r l) (countOf r)) (parentOf (opened r l) x)) _
+      (no-sibling-new (parentOf (opened r l) (countOf r)) (parentOf (opened r l) x) refl (ap (isOpenAt r) (parent-old r l x h) ∙ e))
+  leads-none PrecedingSibling e = and-right (sameRank (parentOf (opened r l) x) (parentOf (opened r l) (countOf r))) _ (le-ltb (countOf r) x (omega arith))
+  leads-none Following e = not-after-new e
+  leads-none Preceding e = none-after _
+
+pub leads-new : (r : Receipt) (l : ℕ) → Lawful r → openingFault l r ≡ None → (a : Axis) (x : ℕ) → x < countOf r → grows r a x ≡ false → leads (opened r l) a x (countOf r) ≡ false
+leads-new r l w f a x h e = leads-none r l w f x h a e
