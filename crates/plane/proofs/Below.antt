@@ -1,18 +1,19 @@
 -- Ancestors by levels: x is an ancestor of y exactly if everything after x up to y is deeper than x.
-use mathlib.Core.Path.{_≡_, refl, sym, ap, _∙_}
-use mathlib.Core.Bool.{Bool, true, false, _||_}
+use mathlib.Core.Path.{_≡_, refl, ap, _∙_}
+use mathlib.Core.Bool.{true}
 use mathlib.Core.Logic.{_⊎_, inl, inr, ⊎-elim}
-use Prim.Native.Nat.{ℕ, zero, suc, _+_, _-_, _≤_, _<_}
+use Prim.Native.Nat.{ℕ, zero, suc, _≤_, _<_}
 use native.Mathlib.Omega.{arith}
 use lib.Dec.{eqb}
 use Rattle.std.specs.Orderings.{Decides}
-use Rattle.std.proofs.shelf.Tests.{cases-eq, cases-lt, cases-order, eqb-true, eq-eqb, or-cases, or-left, or-right, true≢false, false≢true}
+use Rattle.std.proofs.shelf.Tests.{cases-eq, cases-lt, cases-order, eqb-true, eq-eqb, or-cases, or-left, or-right, false≢true}
 use Rattle.std.specs.declared.option.Option.{Option}
 use Rattle.std.specs.declared.option.Option.the-variants.{Some, None}
 use Rattle.model.specs.Receipt.{Receipt, Lawful, countOf, levelAt, parentOf}
 use Rattle.model.specs.Plane.{isAmong, isAncestor}
 use Rattle.model.proofs.Relatives.{parent-some, parent-none, between}
 
+-- y is below x: it comes later, and all levels after x up to y are greater than x's
 abbrev pub Below : Receipt → ℕ → ℕ → Type 0
 Below r x y = (x < y) × ((k : ℕ) → x < k → k ≤ y → levelAt r x < levelAt r k)
 

@@ -1,17 +1,14 @@
 -- The descendants of x are the ranks after x, as many as its size; so the plane's tests tell what is below and what follows.
-use mathlib.Core.Path.{_≡_, refl, sym, ap, _∙_}
-use mathlib.Core.Bool.{Bool, true, false, cond, _&&_}
+use mathlib.Core.Path.{_≡_, sym, ap, _∙_}
+use mathlib.Core.Bool.{Bool, true, false}
 use mathlib.Core.Logic.{_⊎_, inl, inr, ⊎-elim}
 use Prim.Native.Nat.{ℕ, zero, suc, _+_, _-_, _≤_, _<_}
 use native.Mathlib.Omega.{arith}
-use native.Mathlib.Numerals.{add-one}
-use lib.Dec.{eqb, ltb}
+use lib.Dec.{ltb}
 use Rattle.std.specs.Orderings.{Decides}
-use Rattle.std.proofs.shelf.Tests.{cases-eq, cases-lt, cases-bool, both-ways, cond-true, cond-false, ltb-true, lt-ltb, le-ltb, and-parts, and-from, eq-eqb, eqb-true}
-use Rattle.std.specs.declared.option.Option.{Option}
-use Rattle.std.specs.declared.option.Option.the-variants.{Some, None}
-use Rattle.model.specs.Receipt.{Receipt, Lawful, countOf, levelAt, parentOf}
-use Rattle.model.specs.Plane.{isAncestor, howMany, size, post, descends, follows, isChild}
+use Rattle.std.proofs.shelf.Tests.{cases-eq, cases-lt, cases-bool, both-ways, cond-true, cond-false, ltb-true, lt-ltb, and-parts, and-from}
+use Rattle.model.specs.Receipt.{Receipt, Lawful, countOf, levelAt}
+use Rattle.model.specs.Plane.{isAncestor, howMany, size, post, descends, follows}
 use Rattle.plane.proofs.Below.{Below, below-trans, below-less, ancestor-is}
 
 -- A test that passes a block of ranks after x passes as many as the block is long.

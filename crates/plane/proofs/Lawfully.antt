@@ -1,11 +1,8 @@
 -- Every run keeps a receipt lawful.
-use mathlib.Core.Path.{_≡_, refl, sym, ap, _∙_}
+use mathlib.Core.Path.{_≡_, refl}
 use mathlib.Core.List.{List, [], _∷_}
-use mathlib.Core.Bool.{Bool, true, false, cond, _||_}
-use mathlib.Core.Logic.{_⊎_, inl, inr, ⊎-elim}
-use Prim.Native.Nat.{ℕ, zero, suc, _+_, _-_, _≤_, _<_}
+use Prim.Native.Nat.{ℕ, _≤_, _<_}
 use native.Mathlib.Omega.{arith}
-use lib.Dec.{eqb, ltb, leb}
 use Rattle.std.proofs.shelf.Ways.{tells}
 use Rattle.std.specs.declared.option.Option.{Option}
 use Rattle.std.specs.declared.option.Option.the-variants.{Some, None}
@@ -13,8 +10,8 @@ use Rattle.model.specs.declared.action.Action.{Action}
 use Rattle.model.specs.declared.action.Action.the-variants.{Open, Close}
 use Rattle.model.specs.declared.fault.ReceiptFault.{ReceiptFault}
 use Rattle.model.specs.Limits.{most-elements, most-label, most-depth}
-use Rattle.model.specs.Receipt.{Receipt, Lawful, countOf, hasEnded, empty, opened, closed}
-use Rattle.model.specs.Runs.{openingFault, closingFault, faultOf, effectOf, afterOne, after, unlessFault}
+use Rattle.model.specs.Receipt.{Receipt, Lawful, countOf, empty, opened, closed}
+use Rattle.model.specs.Runs.{openingFault, closingFault, afterOne, after, unlessFault}
 use Rattle.model.proofs.Opening.{opened-lawful}
 
 -- What an opening that is not refused has met.

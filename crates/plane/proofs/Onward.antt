@@ -2,7 +2,7 @@
 use mathlib.Core.Path.{_≡_, refl, ap, _∙_}
 use mathlib.Core.List.{List, [], _∷_}
 use mathlib.Core.Logic.{⊎-elim}
-use Prim.Native.Nat.{ℕ, _≤_, _<_}
+use Prim.Native.Nat.{ℕ, _<_}
 use native.Mathlib.Omega.{arith}
 use Rattle.std.proofs.shelf.Tests.{cases-lt}
 use Rattle.std.specs.declared.option.Option.the-variants.{None}
@@ -13,7 +13,7 @@ use Rattle.model.specs.Axes.{leads}
 use Rattle.model.specs.Runs.{openingFault, closingFault, afterOne, after}
 use Rattle.model.proofs.Opening.{count-more}
 use Rattle.plane.specs.Steady.{Continues, RelationsStay}
-use Rattle.plane.proofs.Lawfully.{unless, opening-lawful, closing-lawful}
+use Rattle.plane.proofs.Lawfully.{empty-lawful, unless, opening-lawful, closing-lawful}
 use Rattle.plane.proofs.Steady.{leads-opened, leads-closed, leads-new, leads-inverse, grows-opened, grows-closed, grows-ended, backward-never-grows}
 
 continues-same : (r : Receipt) → Lawful r → Continues r r
@@ -63,4 +63,4 @@ continues-run [] r w = continues-same r w
 continues-run (a ∷ rest) r w = let c = continues-one a r w in continues-trans r (afterOne a r) (after rest (afterOne a r)) c (continues-run rest (afterOne a r) (c .lawful))
 
 pub relations-stay : RelationsStay
-relations-stay = record { runs = continues-run; ended = grows-ended; backward = backward-never-grows; inverses = leads-inverse }
+relations-stay = record { start = empty-lawful; runs = continues-run; ended = grows-ended; backward = backward-never-grows; inverses = leads-inverse }

@@ -1,26 +1,26 @@
 -- Relations between present elements stay as a receipt goes on, and a new element is reached only where the axis may grow.
 use mathlib.Core.Path.{_≡_, refl, sym, ap, _∙_}
-use mathlib.Core.Bool.{Bool, true, false, cond, _&&_, _||_, not}
-use mathlib.Core.Logic.{_⊎_, inl, inr, ⊎-elim}
-use Prim.Native.Nat.{ℕ, zero, suc, _+_, _-_, _≤_, _<_}
+use mathlib.Core.Bool.{Bool, true, false, _&&_, _||_, not}
+use mathlib.Core.Logic.{⊎-elim}
+use Prim.Native.Nat.{ℕ, _+_, _-_, _≤_, _<_}
 use native.Mathlib.Omega.{arith}
 use lib.Dec.{eqb, ltb}
 use Rattle.std.specs.Orderings.{Decides}
-use Rattle.std.proofs.shelf.Ways.{same-from-decides, not-from-decides, tells}
-use Rattle.std.proofs.shelf.Tests.{cases-eq, cases-lt, cases-bool, both-ways, ltb-true, lt-ltb, le-ltb, and-parts, and-from, and-left, and-right, and-cases, or-cases, or-from, or-left, or-right, eq-eqb, eqb-true, ne-eqb, not-false, false≢true}
+use Rattle.std.proofs.shelf.Ways.{same-from-decides, tells}
+use Rattle.std.proofs.shelf.Tests.{cases-eq, cases-bool, both-ways, ltb-true, lt-ltb, le-ltb, and-parts, and-from, and-left, and-right, and-cases, or-cases, or-from, or-left, or-right, eq-eqb, eqb-true, ne-eqb, not-false, false≢true}
 use Rattle.std.specs.declared.option.Option.{Option}
 use Rattle.std.specs.declared.option.Option.the-variants.{Some, None}
 use Rattle.model.specs.declared.axis.Axis.{Axis}
 use Rattle.model.specs.declared.axis.Axis.the-variants.{Itself, Child, Parent, Descendant, Ancestor, DescendantOrSelf, AncestorOrSelf, FollowingSibling, PrecedingSibling, Following, Preceding}
 use Rattle.model.specs.Receipt.{Receipt, Lawful, countOf, levelAt, parentOf, sameRank, hasEnded, opened, closed}
-use Rattle.model.specs.Plane.{isAncestor, descends, follows, isChild, isLaterSibling, isOpen, isOpenAt}
-use Rattle.model.specs.Axes.{leads, inverse, isForward, isBackward, grows}
+use Rattle.model.specs.Plane.{isAncestor, descends, follows, isOpen, isOpenAt}
+use Rattle.model.specs.Axes.{leads, inverse, isBackward, grows}
 use Rattle.model.specs.Runs.{openingFault, closingFault}
 use Rattle.model.proofs.Opening.{level-old, level-new, parent-old, count-more}
 use Rattle.model.proofs.Relatives.{parent-some}
 use Rattle.plane.proofs.Below.{Below, parent-below, ancestor-is}
 use Rattle.plane.proofs.Block.{descends-is, follows-is, first-above, level-later}
-use Rattle.plane.proofs.Lawfully.{Openable, openable}
+use Rattle.plane.proofs.Lawfully.{openable}
 pub use Rattle.plane.proofs.Lawfully.{opening-lawful, closing-lawful, empty-lawful, after-one-lawful, after-lawful}
 use Rattle.plane.proofs.Unchanged.{Agree, leads-agrees, agree-closed}
 
@@ -56,7 +56,7 @@ module _ (r : Receipt) (l : ℕ) where
   below-kept : (x y : ℕ) → y < countOf r → Below (opened r l) x y → Below r x y
   below-kept x y h b = (b .0, λ k a c. let t = b .1 k a c in let p = b .0 in let u = level-old r l x (omega arith) in let v = level-old r l k (omega arith) in omega arith)
 
-  -- Below the new element's ancestors are exactly the open elements.
+  -- The new element's ancestors are exactly the open elements.
   pub below-new-open : (x : ℕ) → x < countOf r → Below (opened r l) x (countOf r) → Opens r x
   below-new-open x h b =
       let u = level-old r l x h in

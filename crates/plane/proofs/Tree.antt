@@ -1,19 +1,18 @@
 -- The plane's tests, by levels, are the tree's relations.
 use mathlib.Core.Path.{_≡_, refl, sym, ap, _∙_}
-use mathlib.Core.Bool.{Bool, true, false, cond, _&&_}
+use mathlib.Core.Bool.{true}
 use mathlib.Core.Logic.{_⊎_, inl, inr, ⊎-elim}
-use Prim.Native.Nat.{ℕ, zero, suc, _+_, _-_, _≤_, _<_}
+use Prim.Native.Nat.{ℕ, zero, suc, _+_, _≤_, _<_}
 use native.Mathlib.Omega.{arith}
-use lib.Dec.{eqb, ltb}
 use Rattle.std.specs.Orderings.{Decides}
 use Rattle.std.proofs.shelf.Tests.{cases-order, cases-lt, ltb-true, lt-ltb, and-parts, and-from, eq-eqb, eqb-true, false≢true}
 use Rattle.std.specs.declared.option.Option.{Option}
 use Rattle.std.specs.declared.option.Option.the-variants.{Some, None}
-use Rattle.model.specs.Receipt.{Receipt, Lawful, countOf, levelAt, parentOf, sameRank, nearest}
+use Rattle.model.specs.Receipt.{Receipt, Lawful, countOf, levelAt, parentOf, sameRank}
 use Rattle.model.specs.Plane.{descends, follows, isChild, isLaterSibling}
 use Rattle.model.proofs.Opening.{inside}
-use Rattle.model.proofs.Relatives.{parent-some, parent-none, nearest-is, between}
-use Rattle.plane.specs.Tree.{Ancestor, one, up, AncestorOrSelf, TreeFollows, TreeAt, PlaneIsTree}
+use Rattle.model.proofs.Relatives.{parent-some, parent-none, nearest-is}
+use Rattle.plane.specs.Tree.{Ancestor, one, up, AncestorOrSelf, TreeFollows, PlaneIsTree}
 use Rattle.plane.proofs.Below.{Below, below-trans, below-less, parent-below, parent-or-above}
 use Rattle.plane.proofs.Block.{descends-is, follows-is, level-later}
 

@@ -1,14 +1,13 @@
 -- What two receipts have to agree on for an axis to lead alike on both.
-use mathlib.Core.Path.{_≡_, refl, sym, ap, _∙_}
-use mathlib.Core.Bool.{Bool, true, false, cond, _&&_, _||_}
-use Prim.Native.Nat.{ℕ, zero, suc, _+_, _-_, _≤_, _<_}
-use native.Mathlib.Omega.{arith}
+use mathlib.Core.Path.{_≡_, refl, ap, _∙_}
+use mathlib.Core.Bool.{Bool, _&&_, _||_}
+use Prim.Native.Nat.{ℕ, zero, suc, _+_, _-_}
 use lib.Dec.{eqb, ltb}
 use Rattle.std.specs.declared.option.Option.{Option}
 use Rattle.std.specs.declared.option.Option.the-variants.{Some, None}
 use Rattle.model.specs.declared.axis.Axis.{Axis}
 use Rattle.model.specs.declared.axis.Axis.the-variants.{Itself, Child, Parent, Descendant, Ancestor, DescendantOrSelf, AncestorOrSelf, FollowingSibling, PrecedingSibling, Following, Preceding}
-use Rattle.model.specs.Receipt.{Receipt, countOf, levelAt, parentOf, sameRank, closed}
+use Rattle.model.specs.Receipt.{Receipt, countOf, levelAt, parentOf, closed}
 use Rattle.model.specs.Plane.{isAmong, isAncestor, howMany, size, post, descends, follows, isChild, isLaterSibling}
 use Rattle.model.specs.Axes.{leads}
 

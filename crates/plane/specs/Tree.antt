@@ -20,6 +20,7 @@ AncestorOrSelf r x y = (x ≡ y) ⊎ Ancestor r x y
 abbrev pub TreeFollows : Receipt → ℕ → ℕ → Type 0
 TreeFollows r x y = (u : ℕ) × (v : ℕ) × (AncestorOrSelf r u x) × (isLaterSibling r u v ≡ true) × (AncestorOrSelf r v y)
 
+-- each test is true exactly if the relation holds
 pub record TreeAt (r : Receipt) (x y : ℕ) : Type 0 where
   pub descendant : Decides (descends r x y) (Ancestor r x y)
   pub child : Decides (isChild r x y) (parentOf r y ≡ Some x)
