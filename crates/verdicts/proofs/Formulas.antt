@@ -15,7 +15,7 @@ use Rattle.model.specs.Query.{Test, Path, last, then, Step, plain, filtered, Fi
 use Rattle.model.specs.Selection.{Set, someBelow, passes, reached, alone, path-keeps, step-keeps, filter-holds, start, selects}
 use Rattle.model.specs.Verdict.{Formula, test, first, conj, disj, neg, along, step-here, path-formula, filter-formula, step-from, path-from, query-formula, plainly, orOver, verdict, yes-no}
 use Rattle.verdicts.specs.Laws.{FormulaIsSelection}
-use Rattle.verdicts.proofs.Some.{some-cong, some-alone, some-swap}
+use Rattle.verdicts.proofs.SomeBelow.{some-cong, some-alone, some-swap}
 
 eqb-sym : (x y : ℕ) → eqb x y ≡ eqb y x
 eqb-sym x y = grind (arith, tells)

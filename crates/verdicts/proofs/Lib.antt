@@ -1,7 +1,9 @@
-pub mod Some
+pub mod SomeBelow
 pub mod Formulas
 pub mod KindLaws
 pub mod Facts
 pub mod Continues
 pub mod Threes
+pub mod Standing
+pub mod Decided
 pub mod Sound
