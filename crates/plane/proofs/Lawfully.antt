@@ -1,0 +1,66 @@
+-- Every run keeps a receipt lawful.
+use mathlib.Core.Path.{_≡_, refl, sym, ap, _∙_}
+use mathlib.Core.List.{List, [], _∷_}
+use mathlib.Core.Bool.{Bool, true, false, cond, _||_}
+use mathlib.Core.Logic.{_⊎_, inl, inr, ⊎-elim}
+use Prim.Native.Nat.{ℕ, zero, suc, _+_, _-_, _≤_, _<_}
+use native.Mathlib.Omega.{arith}
+use lib.Dec.{eqb, ltb, leb}
+use Rattle.std.proofs.shelf.Ways.{tells}
+use Rattle.std.specs.declared.option.Option.{Option}
+use Rattle.std.specs.declared.option.Option.the-variants.{Some, None}
+use Rattle.model.specs.declared.action.Action.{Action}
+use Rattle.model.specs.declared.action.Action.the-variants.{Open, Close}
+use Rattle.model.specs.declared.fault.ReceiptFault.{ReceiptFault}
+use Rattle.model.specs.Limits.{most-elements, most-label, most-depth}
+use Rattle.model.specs.Receipt.{Receipt, Lawful, countOf, hasEnded, empty, opened, closed}
+use Rattle.model.specs.Runs.{openingFault, closingFault, faultOf, effectOf, afterOne, after, unlessFault}
+use Rattle.model.proofs.Opening.{opened-lawful}
+
+-- What an opening that is not refused has met.
+pub record Openable (l : ℕ) (r : Receipt) : Type 0 where
+  pub least : 1 ≤ l
+  pub most : l ≤ most-label
+  pub room : countOf r < most-elements
+  pub shallow : r .depth < most-depth
+  pub live : 0 < countOf r → 0 < r .depth
+
+pub openable : (l : ℕ) (r : Receipt) → openingFault l r ≡ None → Openable l r
+openable l r e = record { least = grind (arith, tells); most = grind (arith, tells); room = grind (arith, tells); shallow = grind (arith, tells); live = λ h. grind (arith, tells) }
+
+pub empty-lawful : Lawful empty
+empty-lawful = record {
+  few = omega arith;
+  first = λ h. absurd (omega arith);
+  later = λ i h. absurd (omega arith);
+  shallow = λ i h. absurd (omega arith);
+  named = λ i h. absurd (omega arith);
+  empty-depth = λ e. refl;
+  open-depth = λ i e. absurd (omega arith);
+}
+
+pub opening-lawful : (r : Receipt) (l : ℕ) → Lawful r → openingFault l r ≡ None → Lawful (opened r l)
+opening-lawful r l w e = let o = openable l r e in opened-lawful r l w (o .least) (o .most) (o .room) (o .shallow) (o .live)
+
+pub closing-lawful : (r : Receipt) → Lawful r → Lawful (closed r)
+closing-lawful r w = record {
+  few = w .few;
+  first = w .first;
+  later = w .later;
+  shallow = w .shallow;
+  named = w .named;
+  empty-depth = λ e. let d = w .empty-depth e in omega arith;
+  open-depth = λ i e. let d = w .open-depth i e in omega arith;
+}
+
+unless-lawful : (o : Option ReceiptFault) (s r : Receipt) → (o ≡ None → Lawful s) → Lawful r → Lawful (unlessFault o s r)
+unless-lawful None s r c w = c refl
+unless-lawful (Some f) s r c w = w
+
+pub after-one-lawful : (a : Action) (r : Receipt) → Lawful r → Lawful (afterOne a r)
+after-one-lawful (Open l) r w = unless-lawful (openingFault l r) (opened r l) r (opening-lawful r l w) w
+after-one-lawful Close r w = unless-lawful (closingFault r) (closed r) r (λ e. closing-lawful r w) w
+
+pub after-lawful : (as-list : List Action) (r : Receipt) → Lawful r → Lawful (after as-list r)
+after-lawful [] r w = w
+after-lawful (a ∷ rest) r w = after-lawful rest (afterOne a r) (after-one-lawful a r w)
