@@ -19,7 +19,7 @@ use Rattle.model.specs.Axes.{leads, grows}
 use Rattle.model.specs.Query.{Test, any, named}
 use Rattle.model.specs.Selection.{passes}
 use Rattle.model.proofs.Opening.{count-more, label-old}
-use Rattle.verdicts.proofs.Facts.{AxisFacts}
+use Rattle.plane.proofs.Steady.{leads-opened, leads-closed, leads-new, grows-opened, grows-closed, after-one-lawful}
 
 pub record Continues (r r′ : Receipt) : Type 0 where
   pub more : countOf r ≤ countOf r′
@@ -60,37 +60,36 @@ passes-closed : (r : Receipt) (t : Test) (x : ℕ) → passes (closed r) t x ≡
 passes-closed r any x = refl
 passes-closed r (named label) x = refl
 
-module _ (facts : AxisFacts) where
-  on-opening : (r : Receipt) (l : ℕ) → Lawful r → openingFault l r ≡ None → Continues r (opened r l)
-  on-opening r l w e =
-      let m = count-more r l in
-      record {
-        more = omega arith;
-        same-test = λ t x h. passes-opened r l t x h;
-        same-leads = λ a x y h k. facts .leads-opened r l w e a x y h k;
-        no-growth = λ a x h g. facts .grows-opened r l w e a x h g;
-        none-new = λ a x y h g low high. let s : y ≡ countOf r = omega arith in ap (leads (opened r l) a x) s ∙ facts .leads-new r l w e a x h g;
-      }
+on-opening : (r : Receipt) (l : ℕ) → Lawful r → openingFault l r ≡ None → Continues r (opened r l)
+on-opening r l w e =
+    let m = count-more r l in
+    record {
+      more = omega arith;
+      same-test = λ t x h. passes-opened r l t x h;
+      same-leads = λ a x y h k. leads-opened r l w e a x y h k;
+      no-growth = λ a x h g. grows-opened r l w e a x h g;
+      none-new = λ a x y h g low high. let s : y ≡ countOf r = omega arith in ap (leads (opened r l) a x) s ∙ leads-new r l w e a x h g;
+    }
 
-  on-closing : (r : Receipt) → Lawful r → closingFault r ≡ None → Continues r (closed r)
-  on-closing r w e = record {
-    more = omega arith;
-    same-test = λ t x h. passes-closed r t x;
-    same-leads = λ a x y h k. facts .leads-closed r a x y;
-    no-growth = λ a x h g. facts .grows-closed r w e a x h g;
-    none-new = λ a x y h g low high. absurd (omega arith);
-  }
+on-closing : (r : Receipt) → Lawful r → closingFault r ≡ None → Continues r (closed r)
+on-closing r w e = record {
+  more = omega arith;
+  same-test = λ t x h. passes-closed r t x;
+  same-leads = λ a x y h k. leads-closed r a x y;
+  no-growth = λ a x h g. grows-closed r w e a x h g;
+  none-new = λ a x y h g low high. absurd (omega arith);
+}
 
-  effect-continues : (a : Action) (r : Receipt) → Lawful r → faultOf a r ≡ None → Continues r (effectOf a r)
-  effect-continues (Open l) r w e = on-opening r l w e
-  effect-continues Close r w e = on-closing r w e
+effect-continues : (a : Action) (r : Receipt) → Lawful r → faultOf a r ≡ None → Continues r (effectOf a r)
+effect-continues (Open l) r w e = on-opening r l w e
+effect-continues Close r w e = on-closing r w e
 
-  one-continues : (a : Action) (r : Receipt) → Lawful r → (o : Option ReceiptFault) → faultOf a r ≡ o → Continues r (unlessFault o (effectOf a r) r)
-  one-continues a r w None e = effect-continues a r w e
-  one-continues a r w (Some f) e = unchanged r
+one-continues : (a : Action) (r : Receipt) → Lawful r → (o : Option ReceiptFault) → faultOf a r ≡ o → Continues r (unlessFault o (effectOf a r) r)
+one-continues a r w None e = effect-continues a r w e
+one-continues a r w (Some f) e = unchanged r
 
-  pub run-continues : (actions : List Action) (r : Receipt) → Lawful r → Continues r (after actions r)
-  run-continues [] r w = unchanged r
-  run-continues (a ∷ rest) r w =
-      further r (afterOne a r) (after rest (afterOne a r)) (one-continues a r w (faultOf a r) refl)
-      (run-continues rest (afterOne a r) (facts .after-one-lawful a r w))
+pub run-continues : (actions : List Action) (r : Receipt) → Lawful r → Continues r (after actions r)
+run-continues [] r w = unchanged r
+run-continues (a ∷ rest) r w =
+    further r (afterOne a r) (after rest (afterOne a r)) (one-continues a r w (faultOf a r) refl)
+    (run-continues rest (afterOne a r) (after-one-lawful a r w))

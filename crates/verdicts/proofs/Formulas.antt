@@ -5,34 +5,15 @@ use Prim.Native.Nat.{ℕ, zero, suc, _<_}
 use native.Mathlib.Omega.{arith}
 use lib.Dec.{eqb, ltb}
 use Rattle.std.proofs.shelf.Tests.{lt-ltb}
-use Rattle.std.proofs.shelf.Ways.{tells}
 use Rattle.model.specs.declared.axis.Axis.{Axis}
-use Rattle.model.specs.declared.axis.Axis.the-variants.{Itself, Child, Parent, Descendant, Ancestor, DescendantOrSelf, AncestorOrSelf, FollowingSibling, PrecedingSibling, Following, Preceding}
 use Rattle.model.specs.Receipt.{Receipt, countOf}
-use Rattle.model.specs.Plane.{descends}
 use Rattle.model.specs.Axes.{leads, inverse, grows}
 use Rattle.model.specs.Query.{Test, Path, last, then, Step, plain, filtered, Filter, holds, both, either, negated, axisOf}
 use Rattle.model.specs.Selection.{Set, someBelow, passes, reached, alone, path-keeps, step-keeps, filter-holds, start, selects}
 use Rattle.model.specs.Verdict.{Formula, test, first, conj, disj, neg, along, step-here, path-formula, filter-formula, step-from, path-from, query-formula, plainly, orOver, verdict, yes-no}
+use Rattle.plane.proofs.Steady.{leads-inverse}
 use Rattle.verdicts.specs.Laws.{FormulaIsSelection}
 use Rattle.verdicts.proofs.SomeBelow.{some-cong, some-alone, some-swap}
-
-eqb-sym : (x y : ℕ) → eqb x y ≡ eqb y x
-eqb-sym x y = grind (arith, tells)
-
-pub leads-inverse : (r : Receipt) (a : Axis) (x y : ℕ) → leads r (inverse a) x y ≡ leads r a y x
-unfolding leads
-leads-inverse r Itself x y = eqb-sym x y
-leads-inverse r Child x y = refl
-leads-inverse r Parent x y = refl
-leads-inverse r Descendant x y = refl
-leads-inverse r Ancestor x y = refl
-leads-inverse r DescendantOrSelf x y = ap (λ b. b || descends r y x) (eqb-sym x y)
-leads-inverse r AncestorOrSelf x y = ap (λ b. b || descends r x y) (eqb-sym x y)
-leads-inverse r FollowingSibling x y = refl
-leads-inverse r PrecedingSibling x y = refl
-leads-inverse r Following x y = refl
-leads-inverse r Preceding x y = refl
 
 and-comm : (a b : Bool) → (a && b) ≡ (b && a)
 and-comm true true = refl

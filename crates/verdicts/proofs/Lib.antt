@@ -1,7 +1,6 @@
 pub mod SomeBelow
 pub mod Formulas
 pub mod KindLaws
-pub mod Facts
 pub mod Continues
 pub mod Threes
 pub mod Standing
