@@ -3,14 +3,14 @@ use mathlib.Core.Path.{_≡_, refl, sym, ap, _∙_}
 use mathlib.Core.Bool.{Bool, true, false, cond, _&&_, _||_, not}
 use Prim.Native.Nat.{ℕ, zero, suc, _<_}
 use native.Mathlib.Omega.{arith}
-use lib.Dec.{eqb, ltb}
+use lib.Dec.{eqb}
 use Rattle.std.proofs.shelf.Tests.{lt-ltb}
 use Rattle.model.specs.declared.axis.Axis.{Axis}
 use Rattle.model.specs.Receipt.{Receipt, countOf}
 use Rattle.model.specs.Axes.{leads, inverse, grows}
 use Rattle.model.specs.Query.{Test, Path, last, then, Step, plain, filtered, Filter, holds, both, either, negated, axisOf}
 use Rattle.model.specs.Selection.{Set, someBelow, passes, reached, alone, path-keeps, step-keeps, filter-holds, start, selects}
-use Rattle.model.specs.Verdict.{Formula, test, first, conj, disj, neg, along, step-here, path-formula, filter-formula, step-from, path-from, query-formula, plainly, orOver, verdict, yes-no}
+use Rattle.model.specs.Verdict.{Formula, test, first, conj, disj, neg, along, step-here, path-formula, filter-formula, step-from, path-from, plainly, orOver, verdict, yes-no}
 use Rattle.plane.proofs.Steady.{leads-inverse}
 use Rattle.verdicts.specs.Laws.{FormulaIsSelection}
 use Rattle.verdicts.proofs.SomeBelow.{some-cong, some-alone, some-swap}
@@ -67,7 +67,7 @@ module _ (r : Receipt) where
   unfolding verdict
   says-neg f x = refl
 
-  -- From some set, some element is kept where an axis and then g hold.
+  -- A step keeps something if and only if its axis leads from the set to an element where f holds.
   kept-along : (a : Axis) (from keeps : Set) (f : Formula) → ((y : ℕ) → y < countOf r → keeps y ≡ (reached r a from y && says f y)) → someBelow keeps (countOf r) ≡ someBelow (λ x. from x && says (along a f) x) (countOf r)
   kept-along a from keeps f h =
       some-cong keeps (λ y. reached r a from y && says f y) (countOf r) h
@@ -93,7 +93,7 @@ module _ (r : Receipt) where
     filter-says (either f g) y h = let a = filter-says f y h in let b = filter-says g y h in let c = says-disj (filter-formula f) (filter-formula g) y in cc
     filter-says (negated f) y h = let a = filter-says f y h in let c = says-neg (filter-formula f) y in cc
 
-  -- What came before a step holds along the inverse of its axis where the axis leads on from there.
+  -- An axis leads here from where `before` holds: `before` holds along the inverse axis.
   says-back : (a : Axis) (from : Set) (before : Formula) → ((x : ℕ) → x < countOf r → from x ≡ says before x) → (y : ℕ) → reached r a from y ≡ says (along (inverse a) before) y
   says-back a from before e y =
       some-cong (λ x. from x && leads r a x y) (λ x. leads r (inverse a) y x && says before x) (countOf r)

@@ -1,7 +1,7 @@
 -- Yes-no and three are kinds.
 use mathlib.Core.Path.{_≡_, refl}
 use mathlib.Core.Bool.{Bool, true, false, _||_}
-use Rattle.model.specs.Verdict.{KindLaws, yes-no, three, Three, is-out, undecided, is-in, higher}
+use Rattle.model.specs.Verdict.{Three, is-out, undecided, is-in, higher}
 use Rattle.verdicts.specs.Laws.{KindsKeepTheirLaws}
 
 either-assoc : (a b c : Bool) → ((a || b) || c) ≡ (a || (b || c))

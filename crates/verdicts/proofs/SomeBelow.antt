@@ -1,11 +1,11 @@
 -- Whether some rank passes: equal tests, the rank that passes, and two searches in either order.
 use mathlib.Core.Path.{_≡_, refl, sym, ap, _∙_}
-use mathlib.Core.Bool.{Bool, true, false, cond, _&&_, _||_}
-use mathlib.Core.Logic.{_⊎_, inl, inr, ⊎-elim}
+use mathlib.Core.Bool.{Bool, true, false, _&&_}
+use mathlib.Core.Logic.{⊎-elim}
 use Prim.Native.Nat.{ℕ, zero, suc, _<_}
 use native.Mathlib.Omega.{arith}
 use lib.Dec.{eqb}
-use Rattle.std.proofs.shelf.Tests.{cases-eq, cases-bool, eq-eqb, eqb-true, or-left, or-right, or-cases, and-parts, and-from, both-ways}
+use Rattle.std.proofs.shelf.Tests.{cases-eq, eq-eqb, eqb-true, or-left, or-right, or-cases, and-parts, and-from}
 use Rattle.model.specs.Selection.{Set, someBelow, alone}
 
 pub some-cong : (p q : Set) (n : ℕ) → ((j : ℕ) → j < n → p j ≡ q j) → someBelow p n ≡ someBelow q n

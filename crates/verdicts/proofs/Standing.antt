@@ -1,5 +1,5 @@
 -- What is decided stays so while the receipt goes on, and is what yes and no say.
-use mathlib.Core.Path.{_≡_, sym, ap}
+use mathlib.Core.Path.{sym, ap}
 use Prim.Native.Nat.{ℕ, _<_}
 use lib.Dec.{eqb}
 use Rattle.model.specs.Receipt.{Receipt, countOf}

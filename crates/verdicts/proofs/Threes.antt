@@ -7,6 +7,7 @@ use native.Mathlib.Omega.{arith}
 use Rattle.std.proofs.shelf.Tests.{cases-eq, true≢false}
 use Rattle.model.specs.Verdict.{plainly, orOver, yes-no, Three, is-out, undecided, is-in, lower, higher, swapped, three}
 
+-- what the first verdict decides, the second has
 pub data Kept : Three → Three → Type 0 where
   still-open : {v : Three} → Kept undecided v
   same : {v : Three} → Kept v v
@@ -98,7 +99,7 @@ over-in p f n (suc m) h e = ⊎-elim
     by true v = higher-in v
     by false v = refl
 
--- An axis part: where the axis may grow only what is in was told; elsewhere nothing was added.
+-- An axis part: where the axis may grow, it decided nothing but in; elsewhere nothing is added.
 pub kept-along : (g g′ : Bool) (v w w′ : Three) → Kept v w → (g ≡ false → (g′ ≡ false) × (w′ ≡ w)) → (w ≡ is-in → w′ ≡ is-in) → Kept (higher (cond g undecided is-out) v) (higher (cond g′ undecided is-out) w′)
 kept-along true g′ is-out w w′ k none stays = still-open
 kept-along true g′ undecided w w′ k none stays = still-open
@@ -106,7 +107,7 @@ kept-along true g′ is-in w w′ k none stays = rw (stays (kept-in k refl)) (rw
 kept-along false true v w w′ k none stays = absurd (true≢false (none refl .0))
 kept-along false false v w w′ k none stays = rw (none refl .1) k
 
--- Three verdicts tell yes or no, or nothing.
+-- Yes and no as verdicts of three: joined before or after, they are the same.
 pub told-and : (a b : Bool) → lower (plainly three a) (plainly three b) ≡ plainly three (a && b)
 told-and true b = refl
 told-and false b = refl
