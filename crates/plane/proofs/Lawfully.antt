@@ -53,13 +53,14 @@ closing-lawful r w = record {
   open-depth = λ i e. let d = w .open-depth i e in omega arith;
 }
 
-unless-lawful : (o : Option ReceiptFault) (s r : Receipt) → (o ≡ None → Lawful s) → Lawful r → Lawful (unlessFault o s r)
-unless-lawful None s r c w = c refl
-unless-lawful (Some f) s r c w = w
+-- What holds of the old receipt, and of the new one where there is no fault, holds of the receipt afterwards.
+pub unless : (P : Receipt → Type 0) (o : Option ReceiptFault) (s r : Receipt) → (o ≡ None → P s) → P r → P (unlessFault o s r)
+unless P None s r c w = c refl
+unless P (Some f) s r c w = w
 
 pub after-one-lawful : (a : Action) (r : Receipt) → Lawful r → Lawful (afterOne a r)
-after-one-lawful (Open l) r w = unless-lawful (openingFault l r) (opened r l) r (opening-lawful r l w) w
-after-one-lawful Close r w = unless-lawful (closingFault r) (closed r) r (λ e. closing-lawful r w) w
+after-one-lawful (Open l) r w = unless Lawful (openingFault l r) (opened r l) r (opening-lawful r l w) w
+after-one-lawful Close r w = unless Lawful (closingFault r) (closed r) r (λ e. closing-lawful r w) w
 
 pub after-lawful : (as-list : List Action) (r : Receipt) → Lawful r → Lawful (after as-list r)
 after-lawful [] r w = w
