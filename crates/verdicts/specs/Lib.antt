@@ -1,0 +1,3 @@
+pub mod Forward
+pub mod Laws
+pub mod Sound
