@@ -15,15 +15,10 @@ use Rattle.std.specs.declared.option.Option.the-variants.{Some, None}
 use Rattle.model.specs.Receipt.{Element, Receipt, Lawful, within, absent, countOf, levelAt, labelAt, nearest, parentOf, firstChildOf, nextSiblingOf, previousSiblingOf, lastWhere, firstWhere, sameRank, innermost, lastInside, opened}
 use Rattle.model.specs.Limits.{most-elements, most-label, most-depth}
 use Rattle.model.proofs.Relatives.{inside, parent-some}
-use Rattle.model.proofs.Search.{last-cong, last-none, last-is, last-some, last-none-all, first-cong, first-none, first-more, first-new, first-same, apart-rank, same-rank}
+use Rattle.model.proofs.Search.{last-cong, last-none, last-is, last-some, last-none-all, first-cong, first-none, first-more, first-new, first-same, apart-rank, same-rank, same-parts}
 
 abbrev fresh : Receipt → ℕ → Element
 fresh r l = record { label = l; level = r .depth }
-
-same-parts : (a b : Option ℕ) → sameRank a b ≡ true → (x : ℕ) × (a ≡ Some x) × (b ≡ Some x)
-same-parts None b e = let z : _≡_ {A = ℕ} 0 1 = cc in absurd (omega arith)
-same-parts (Some a) None e = let z : _≡_ {A = ℕ} 0 1 = cc in absurd (omega arith)
-same-parts (Some a) (Some b) e = (a, refl, ap Some (sym (eqb-true a b e)))
 
 same-from : (a b : Option ℕ) (x : ℕ) → a ≡ Some x → b ≡ Some x → sameRank a b ≡ true
 same-from a b x p q = rw (p, q) (eq-eqb x x refl)

@@ -72,6 +72,11 @@ pub apart-rank : (a : Option ℕ) (b : ℕ) → (a ≡ Some b → ⊥) → sameR
 apart-rank None b h = refl
 apart-rank (Some a) b h = ne-eqb a b (λ e. h (ap Some e))
 
+pub same-parts : (a b : Option ℕ) → sameRank a b ≡ true → (x : ℕ) × (a ≡ Some x) × (b ≡ Some x)
+same-parts None b e = let z : _≡_ {A = ℕ} 0 1 = cc in absurd (omega arith)
+same-parts (Some a) None e = let z : _≡_ {A = ℕ} 0 1 = cc in absurd (omega arith)
+same-parts (Some a) (Some b) e = (a, refl, ap Some (sym (eqb-true a b e)))
+
 pub same-is : (a : Option ℕ) (b : ℕ) → sameRank a (Some b) ≡ true → a ≡ Some b
 same-is None b e = let z : _≡_ {A = ℕ} 0 1 = cc in absurd (omega arith)
 same-is (Some a) b e = ap Some (eqb-true a b e)

@@ -10,8 +10,8 @@ use Rattle.std.specs.declared.option.Option.{Option}
 use Rattle.std.specs.declared.option.Option.the-variants.{Some, None}
 use Rattle.model.specs.Receipt.{Receipt, Lawful, countOf, levelAt, parentOf, sameRank}
 use Rattle.model.specs.Plane.{descends, follows, isChild, isLaterSibling}
-use Rattle.model.proofs.Opening.{inside}
-use Rattle.model.proofs.Relatives.{parent-some, parent-none, nearest-is}
+use Rattle.model.proofs.Search.{same-parts}
+use Rattle.model.proofs.Relatives.{inside, parent-some, parent-none, nearest-is}
 use Rattle.plane.specs.Tree.{Ancestor, one, up, AncestorOrSelf, TreeFollows, PlaneIsTree}
 use Rattle.plane.proofs.Below.{Below, below-trans, below-less, parent-below, parent-or-above}
 use Rattle.plane.proofs.Block.{descends-is, follows-is, level-later}
@@ -19,11 +19,6 @@ use Rattle.plane.proofs.Block.{descends-is, follows-is, level-later}
 up-all : (r : Receipt) (u x y : ℕ) → AncestorOrSelf r u x → parentOf r y ≡ Some x → AncestorOrSelf r u y
 up-all r u x y (inl q) e = inr (one (e ∙ ap Some (sym q)))
 up-all r u x y (inr a) e = inr (up e a)
-
-same-parent : (a b : Option ℕ) → sameRank a b ≡ true → (p : ℕ) × (a ≡ Some p) × (b ≡ Some p)
-same-parent None b e = absurd (false≢true e)
-same-parent (Some a) None e = absurd (false≢true e)
-same-parent (Some a) (Some b) e = (a, refl, ap Some (sym (eqb-true a b e)))
 
 module _ (r : Receipt) (w : Lawful r) where
   tree-below : (x : ℕ) {y : ℕ} → Ancestor r x y → Below r x y
@@ -94,7 +89,7 @@ module _ (r : Receipt) (w : Lawful r) where
   by-follows x y u v a t b =
       let s = and-parts (sameRank (parentOf r v) (parentOf r u)) _ t in
       let h = ltb-true u v (s .1) in
-      let m = same-parent (parentOf r v) (parentOf r u) (s .0) in
+      let m = same-parts (parentOf r v) (parentOf r u) (s .0) in
       let i = parent-some r v (m .0) (m .1) in
       let j = parent-some r u (m .0) (m .2) in
       let c = no-later v y b in
