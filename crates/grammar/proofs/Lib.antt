@@ -1,0 +1,4 @@
+pub mod Forward
+pub mod Chains
+pub mod Back
+pub mod Places
