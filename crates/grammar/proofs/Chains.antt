@@ -75,3 +75,36 @@ step-is a x (hold f) = refl
 pub path-is : (s : StepTree) (t : Tail) → path-text (mk-path s t) ≡ step-text s ++ tail-text t
 path-is s no-tail = sym (append-nil (step-text s))
 path-is s (tail p) = refl
+
+-- A chain's first atom, and the joins that follow it before those of j.
+abbrev pub first-of-ands : AndChain → Atom
+first-of-ands (g.atom a) = a
+first-of-ands (and x a) = first-of-ands x
+
+abbrev pub joins-of-ands : AndChain → Joins → Joins
+joins-of-ands (g.atom a) j = j
+joins-of-ands (and x a) j = joins-of-ands x (joined by-and a j)
+
+abbrev pub first-of : OrChain → Atom
+first-of (ands x) = first-of-ands x
+first-of (or f x) = first-of f
+
+abbrev pub joins-of : OrChain → Joins → Joins
+joins-of (ands x) j = joins-of-ands x j
+joins-of (or f x) j = joins-of f (joined by-or (first-of-ands x) (joins-of-ands x j))
+
+ands-again : (x : AndChain) (j : Joins) → mk-ors (ands (g.atom (first-of-ands x))) (joins-of-ands x j) ≡ mk-ors (ands x) j
+ands-again (g.atom a) j = refl
+ands-again (and x a) j = ands-again x (joined by-and a j)
+
+or-again : (f : OrChain) (x : AndChain) (j : Joins) → mk-ors (or f (g.atom (first-of-ands x))) (joins-of-ands x j) ≡ mk-ors (or f x) j
+or-again f (g.atom a) j = refl
+or-again f (and x a) j = or-again f x (joined by-and a j)
+
+-- The first atom and the joins make the chain again.
+pub chain-again : (f : OrChain) (j : Joins) → mk-ors (ands (g.atom (first-of f))) (joins-of f j) ≡ mk-ors f j
+chain-again (ands x) j = ands-again x j
+chain-again (or f x) j = chain-again f (joined by-or (first-of-ands x) (joins-of-ands x j)) ∙ or-again f x j
+
+pub chain-text : (f : OrChain) → or-text f ≡ atom-text (first-of f) ++ joins-text (joins-of f no-join)
+chain-text f = sym (ap or-text (chain-again f no-join)) ∙ ors-is (ands (g.atom (first-of f))) (joins-of f no-join)

@@ -2,3 +2,4 @@ pub mod Forward
 pub mod Chains
 pub mod Back
 pub mod Places
+pub mod Unique
