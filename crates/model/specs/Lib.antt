@@ -6,5 +6,7 @@ pub mod Roll
 pub mod Plane
 pub mod Axes
 pub mod Query
+pub mod Names
+pub mod Grammar
 pub mod Selection
 pub mod Verdict

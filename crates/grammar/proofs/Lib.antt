@@ -1,0 +1,5 @@
+pub mod Forward
+pub mod Chains
+pub mod Back
+pub mod Places
+pub mod Unique
