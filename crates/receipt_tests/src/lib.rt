@@ -26,20 +26,22 @@ mod tests {
 
     // Levels 0 1 2 2 1 2 2, labels 1 2 3 3 2 3 4, depth 2.
     fn worked() -> Till {
-        ring_up(&[
-            Action::Open(1),
-            Action::Open(2),
-            Action::Open(3),
-            Action::Close,
-            Action::Open(3),
-            Action::Close,
-            Action::Close,
-            Action::Open(2),
-            Action::Open(3),
-            Action::Close,
-            Action::Open(4),
-            Action::Close,
-        ])
+        ring_up(
+            &[
+                Action::Open(1),
+                Action::Open(2),
+                Action::Open(3),
+                Action::Close,
+                Action::Open(3),
+                Action::Close,
+                Action::Close,
+                Action::Open(2),
+                Action::Open(3),
+                Action::Close,
+                Action::Open(4),
+                Action::Close,
+            ],
+        )
     }
 
     #[test]
@@ -81,7 +83,17 @@ mod tests {
     fn ends() -> Result<(), Fail> {
         let mut till = Till::new();
         check_eq(till.close(), Err(ReceiptFault::NothingOpen))?;
-        check_eq(till.run(&[Action::Open(1), Action::Close, Action::Open(1), Action::Close]), 2)?;
+        check_eq(
+            till.run(
+                &[
+                    Action::Open(1),
+                    Action::Close,
+                    Action::Open(1),
+                    Action::Close,
+                ],
+            ),
+            2,
+        )?;
         check_eq(till.open(0), Err(ReceiptFault::BadLabel))?;
         check_eq(till.open(1), Err(ReceiptFault::Ended))?;
         check_eq(till.close(), Err(ReceiptFault::NothingOpen))?;
@@ -90,17 +102,61 @@ mod tests {
 
     #[test]
     fn names_refusals() -> Result<(), Fail> {
-        check_eq(ReceiptFault::BadLabel.refusal(), Refusal { number: 2, layer: Layer::Receipt, place: 0 })?;
-        check_eq(ReceiptFault::Ended.refusal(), Refusal { number: 3, layer: Layer::Receipt, place: 0 })?;
-        check_eq(ReceiptFault::Full.refusal(), Refusal { number: 4, layer: Layer::Receipt, place: 0 })?;
-        check_eq(ReceiptFault::TooDeep.refusal(), Refusal { number: 5, layer: Layer::Receipt, place: 0 })?;
-        check_eq(ReceiptFault::NothingOpen.refusal(), Refusal { number: 6, layer: Layer::Receipt, place: 0 })
+        check_eq(
+            ReceiptFault::BadLabel.refusal(),
+            Refusal {
+                number: 2,
+                layer: Layer::Receipt,
+                place: 0,
+            },
+        )?;
+        check_eq(
+            ReceiptFault::Ended.refusal(),
+            Refusal {
+                number: 3,
+                layer: Layer::Receipt,
+                place: 0,
+            },
+        )?;
+        check_eq(
+            ReceiptFault::Full.refusal(),
+            Refusal {
+                number: 4,
+                layer: Layer::Receipt,
+                place: 0,
+            },
+        )?;
+        check_eq(
+            ReceiptFault::TooDeep.refusal(),
+            Refusal {
+                number: 5,
+                layer: Layer::Receipt,
+                place: 0,
+            },
+        )?;
+        check_eq(
+            ReceiptFault::NothingOpen.refusal(),
+            Refusal {
+                number: 6,
+                layer: Layer::Receipt,
+                place: 0,
+            },
+        )
     }
 
     #[test]
     fn links_relatives() -> Result<(), Fail> {
         let till = worked();
-        let parents = [None, Some(0), Some(1), Some(1), Some(0), Some(4), Some(4), None];
+        let parents = [
+            None,
+            Some(0),
+            Some(1),
+            Some(1),
+            Some(0),
+            Some(4),
+            Some(4),
+            None,
+        ];
         let children = [Some(1), Some(2), None, None, Some(5), None, None, None];
         let nexts = [None, Some(4), Some(3), None, None, Some(6), None, None];
         let previous = [None, None, None, Some(2), Some(1), None, Some(5), None];
@@ -121,6 +177,33 @@ mod tests {
         check_eq(short, [9u8; 21])?;
         let mut memory = [9u8; 23];
         check_eq(write_roll(&till, &mut memory), Ok(22))?;
-        check_eq(memory, [1, 2, 0, 7, 0, 8, 0, 15, 0, 1, 2, 2, 1, 2, 2, 1, 2, 3, 3, 2, 3, 4, 9])
+        check_eq(
+            memory,
+            [
+                1,
+                2,
+                0,
+                7,
+                0,
+                8,
+                0,
+                15,
+                0,
+                1,
+                2,
+                2,
+                1,
+                2,
+                2,
+                1,
+                2,
+                3,
+                3,
+                2,
+                3,
+                4,
+                9,
+            ],
+        )
     }
 }
