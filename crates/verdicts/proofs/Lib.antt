@@ -1,7 +1,6 @@
 pub mod SomeBelow
 pub mod Formulas
 pub mod KindLaws
-pub mod Continues
 pub mod Threes
 pub mod Standing
 pub mod Decided

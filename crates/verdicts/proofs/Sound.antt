@@ -11,8 +11,8 @@ use Rattle.model.specs.Query.{Path}
 use Rattle.model.specs.Verdict.{query-formula, plainly, verdict, yes-no, three, is-out, is-in, standing}
 use Rattle.verdicts.specs.Sound.{VerdictsAreSound}
 use Rattle.plane.proofs.Steady.{grows-ended, backward-never-grows}
+use Rattle.plane.proofs.Onward.{continues-run}
 use Rattle.verdicts.proofs.Formulas.{formula-is-selection}
-use Rattle.verdicts.proofs.Continues.{run-continues}
 use Rattle.verdicts.proofs.Threes.{Kept, kept-in, kept-out, never-undecided}
 use Rattle.verdicts.proofs.Standing.{verdict-kept, verdict-told}
 use Rattle.verdicts.proofs.Decided.{all-still-decided, forward-decided}
@@ -26,19 +26,19 @@ told-out false e = refl
 told-out true e = let z : _≡_ {A = ℕ} 0 1 = cc in absurd (omega arith)
 
 standing-kept : (r : Receipt) → Lawful r → (q : Path) (y : ℕ) → y < countOf r → (actions : List Action) → Kept (standing r q y) (standing (after actions r) q y)
-standing-kept r w q y h actions = verdict-kept r (after actions r) (run-continues actions r w) (query-formula q) y h
+standing-kept r w q y h actions = verdict-kept r (after actions r) (continues-run actions r w) (query-formula q) y h
 
 pub verdicts-are-sound : VerdictsAreSound
 verdicts-are-sound = record {
   sure-stays-selected = λ r w q y h e actions.
       let s = after actions r in
-      let m = run-continues actions r w .more in
+      let m = continues-run actions r w .longer in
       let i = kept-in (standing-kept r w q y h actions) e in
       let t = kept-in (verdict-told s (query-formula q) y) i in
       sym (formula-is-selection s q y (omega arith)) ∙ told-in (verdict yes-no s (query-formula q) y) t;
   left-out-stays-out = λ r w q y h e actions.
       let s = after actions r in
-      let m = run-continues actions r w .more in
+      let m = continues-run actions r w .longer in
       let i = kept-out (standing-kept r w q y h actions) e in
       let t = kept-out (verdict-told s (query-formula q) y) i in
       sym (formula-is-selection s q y (omega arith)) ∙ told-out (verdict yes-no s (query-formula q) y) t;
