@@ -5,3 +5,4 @@ pub mod Opening
 pub mod Runs
 pub mod Rolls
 pub mod Calls
+pub mod Listed

@@ -5,3 +5,4 @@ pub mod Threes
 pub mod Standing
 pub mod Decided
 pub mod Sound
+pub mod Agree

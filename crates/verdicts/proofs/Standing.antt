@@ -4,10 +4,11 @@ use Prim.Native.Nat.{ℕ, _<_}
 use lib.Dec.{eqb}
 use Rattle.model.specs.Receipt.{Receipt, countOf}
 use Rattle.model.specs.Axes.{leads, grows}
-use Rattle.model.specs.Query.{Test, any, named}
-use Rattle.model.specs.Selection.{passes}
-use Rattle.model.specs.Verdict.{Formula, test, first, conj, disj, neg, along, plainly, verdict, orOver, yes-no, three}
+use Rattle.model.specs.Query.{Test, any, named, Path}
+use Rattle.model.specs.Selection.{passes, selects}
+use Rattle.model.specs.Verdict.{Formula, test, first, conj, disj, neg, along, plainly, verdict, orOver, yes-no, three, query-formula, standing}
 use Rattle.plane.specs.Steady.{Continues}
+use Rattle.verdicts.proofs.Formulas.{formula-is-selection}
 use Rattle.verdicts.proofs.Threes.{Kept, same, kept-equal, kept-and, kept-or, kept-opposite, kept-over, kept-along, over-none, over-in, told-and, told-or, told-not, told-plain, told-over, told-along}
 
 -- An element's label stays, and so what it passes.
@@ -40,3 +41,7 @@ verdict-told r (disj f g) x = rw (sym (told-or (verdict yes-no r f x) (verdict y
 verdict-told r (neg f) x = rw (sym (told-not (verdict yes-no r f x))) (kept-opposite (verdict-told r f x))
 verdict-told r (along a f) x = told-along (grows r a x) (orOver yes-no (leads r a x) (verdict yes-no r f) (countOf r)) (orOver three (leads r a x) (verdict three r f) (countOf r))
     (told-over (leads r a x) (verdict three r f) (verdict yes-no r f) (countOf r) (λ y k. verdict-told r f y))
+
+-- What the verdict of a query decides, the selection says.
+pub standing-told : (r : Receipt) (q : Path) (y : ℕ) → y < countOf r → Kept (standing r q y) (plainly three (selects r q y))
+standing-told r q y h = rw (← formula-is-selection r q y h) (verdict-told r (query-formula q) y)
