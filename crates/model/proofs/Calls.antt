@@ -1,7 +1,6 @@
 -- The receipt after calls is the one after their openings and closings.
 use mathlib.Core.Path.{_≡_, refl}
 use mathlib.Core.List.{List, [], _∷_}
-use Prim.Native.Nat.{ℕ}
 use Rattle.model.specs.Receipt.{Receipt}
 use Rattle.model.specs.Runs.{afterOne, after}
 use Rattle.model.specs.Calls.{Call, act, show, write, afterCalls, actionsOf}

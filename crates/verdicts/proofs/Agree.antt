@@ -11,7 +11,6 @@ use Rattle.std.proofs.shelf.Elements.{all-has, all-weaker, kept-by-append}
 use Rattle.std.proofs.shelf.Lists.{map-append}
 use Rattle.std.proofs.shelf.Sums.{sumBy-cons, length-kept-by}
 use Rattle.std.proofs.shelf.Tests.{ltb-true, and-parts, false≢true, true≢false}
-use Rattle.std.specs.declared.option.Option.{Option}
 use Rattle.std.specs.declared.option.Option.the-variants.{Some, None}
 use Rattle.model.specs.declared.entry.Certainty.{Certainty}
 use Rattle.model.specs.declared.entry.Certainty.the-variants.{Sure, Undecided}
@@ -20,7 +19,7 @@ use Rattle.model.specs.Receipt.{Receipt, countOf}
 use Rattle.model.specs.Query.{Path}
 use Rattle.model.specs.Selection.{path-keeps, start, selects}
 use Rattle.model.specs.Verdict.{plainly, three, Three, is-out, undecided, is-in, standing}
-use Rattle.model.specs.Show.{ifAny, listed, entryFor, entries, isSure, selectedIn, sureIn, selectedRanks}
+use Rattle.model.specs.Show.{ifAny, entryFor, entries, isSure, selectedIn, selectedRanks}
 use Rattle.model.proofs.Listed.{listed-through, listed-all, listed-has}
 use Rattle.verdicts.specs.Agree.{ranksSelected, ShowAndAuditAgree}
 use Rattle.verdicts.proofs.Threes.{Kept, kept-in, kept-out, told-in, told-out}

@@ -8,7 +8,6 @@ use Rattle.std.specs.shelf.Text.{sameBytes}
 use Rattle.model.specs.declared.action.Action.the-variants.{Open, Close}
 use Rattle.model.specs.declared.entry.Certainty.the-variants.{Sure, Undecided}
 use Rattle.model.specs.declared.entry.Entry.{Entry}
-use Rattle.model.specs.declared.entry.Tally.{Tally}
 use Rattle.model.specs.Receipt.{Element, Receipt, Lawful}
 use Rattle.model.specs.Calls.{Call, act, afterCalls, rungUp}
 use Rattle.model.specs.Roll.{rollOf}
@@ -28,7 +27,7 @@ labelOfName = labelFrom 1 (codes "receipt" ∷ codes "group" ∷ codes "line" �
 abbrev pub element : ℕ → ℕ → Element
 element level label = record { label = label; level = level }
 
--- a receipt with a group of two lines, and a group of a line and a void that is still open
+-- a receipt with a closed group of two lines and an open group of a line and a void
 abbrev pub worked : Receipt
 worked = record { elements = element 0 1 ∷ element 1 2 ∷ element 2 3 ∷ element 2 3 ∷ element 1 2 ∷ element 2 3 ∷ element 2 4 ∷ []; depth = 2 }
 
