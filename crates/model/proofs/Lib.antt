@@ -4,3 +4,5 @@ pub mod Bounds
 pub mod Opening
 pub mod Runs
 pub mod Rolls
+pub mod Calls
+pub mod Listed
