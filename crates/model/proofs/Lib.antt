@@ -4,3 +4,4 @@ pub mod Bounds
 pub mod Opening
 pub mod Runs
 pub mod Rolls
+pub mod Numbers

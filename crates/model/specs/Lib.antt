@@ -3,6 +3,7 @@ pub mod Receipt
 pub mod Refusals
 pub mod Runs
 pub mod Roll
+pub mod Reading
 pub mod Plane
 pub mod Axes
 pub mod Query
