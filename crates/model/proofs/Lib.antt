@@ -4,4 +4,8 @@ pub mod Bounds
 pub mod Opening
 pub mod Runs
 pub mod Rolls
+pub mod Firsts
+pub mod Siblings
 pub mod Numbers
+pub mod Readings
+pub mod ReadBack
