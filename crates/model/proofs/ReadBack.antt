@@ -65,18 +65,18 @@ module _ (r : Receipt) (w : Lawful r) where
       keeps-later i (byteAt bytes (levelPlace i)) (byteAt bytes (levelPlace (i - 1))) (omega arith) (omega arith) (omega arith) (omega arith))
       (cases-eq i 0)
 
-  label-keeps : (i : ℕ) → i < countOf r → labelBreaks bytes i ≡ false
+  label-keeps : (i : ℕ) → i < countOf r → labelBreaks bytes (countIn bytes) i ≡ false
   label-keeps i h =
       let label = byteAt bytes (labelPlace (countIn bytes) i) in
       let v : label ≡ labelAt r i = ap (λ n. byteAt bytes (labelPlace n i)) count-back ∙ label-back i h in
       let x = w .named i h in
       or-from (eqb label 0) _ (ne-eqb label 0 (λ e. omega arith)) (le-ltb most-label label (omega arith))
 
-  depth-keeps : depthIn bytes ≤ greatestDepth bytes
+  depth-keeps : depthIn bytes ≤ greatestDepth bytes (countIn bytes)
   depth-keeps = ⊎-elim
       (λ (z : countOf r ≡ 0). let d = w .empty-depth z in let b = depth-back in omega arith)
       (λ nz.
-      let c : greatestDepth bytes ≡ byteAt bytes (levelPlace (countIn bytes - 1)) + 1 = cond-false (eqb (countIn bytes) 0) 0 _ (ne-eqb (countIn bytes) 0 (λ e. let m = count-back in omega arith)) in
+      let c : greatestDepth bytes (countIn bytes) ≡ byteAt bytes (levelPlace (countIn bytes - 1)) + 1 = cond-false (eqb (countIn bytes) 0) 0 _ (ne-eqb (countIn bytes) 0 (λ e. let m = count-back in omega arith)) in
       let m = ap (λ n. byteAt bytes (levelPlace (n - 1))) count-back in
       let v = level-back (countOf r - 1) (omega arith) in
       let x = w .open-depth (countOf r - 1) (omega arith) in

@@ -20,7 +20,7 @@ use Rattle.model.specs.declared.fault.RollFault.the-variants.{NoRoll, BadLayou
 use Rattle.model.specs.Limits.{most-elements, most-label, most-depth}
 use Rattle.model.specs.Receipt.{Element, Receipt, Lawful, absent, countOf, levelAt, labelAt, firstWhere}
 use Rattle.model.specs.Roll.{bigEndian, edition, header, header-length, rollLength, rollOf}
-use Rattle.model.specs.Reading.{byteAt, numberIn, twoBytesAt, depthIn, countIn, levelPlace, labelPlace, elementIn, elementsIn, receiptIn, misplaced, levelBreaks, labelBreaks, greatestDepth, faultAt, readingFault}
+use Rattle.model.specs.Reading.{byteAt, numberIn, twoBytesAt, depthIn, countIn, levelPlace, labelPlace, elementIn, elementsIn, receiptIn, foreign, misplaced, levelBreaks, labelBreaks, greatestDepth, faultAt, readingFault}
 use Rattle.model.proofs.Search.{first-none}
 use Rattle.model.proofs.Firsts.{first-none-all}
 use Rattle.model.proofs.Numbers.{number-written, number-read}
@@ -48,8 +48,8 @@ pub record Accepted (bytes : List ℕ) : Type 0 where
   pub labels-at : twoBytesAt bytes 6 ≡ header-length + countIn bytes
   pub whole : length bytes ≡ rollLength (countIn bytes)
   pub levels-keep : (i : ℕ) → i < countIn bytes → levelBreaks bytes i ≡ false
-  pub labels-keep : (i : ℕ) → i < countIn bytes → labelBreaks bytes i ≡ false
-  pub depth-keeps : depthIn bytes ≤ greatestDepth bytes
+  pub labels-keep : (i : ℕ) → i < countIn bytes → labelBreaks bytes (countIn bytes) i ≡ false
+  pub depth-keeps : depthIn bytes ≤ greatestDepth bytes (countIn bytes)
 
 neither : (b : Bool) (f : RollFault) (o : Option RollFault) → cond b (Some f) o ≡ None → (b ≡ false) × (o ≡ None)
 neither true f o e = let z : _≡_ {A = ℕ} 0 1 = cc in absurd (omega arith)
@@ -65,14 +65,14 @@ equal a b e = eqb-true a b (not-false (eqb a b) e)
 pub accepted : (bytes : List ℕ) → readingFault bytes ≡ None → Accepted bytes
 unfolding readingFault
 accepted bytes e =
-    let a = neither _ NoRoll _ e in
+    let a = neither (foreign bytes) NoRoll _ e in
     let head = or-parts (ltb (length bytes) header-length) _ (a .0) in
     let b = neither (misplaced bytes) BadLayout _ (a .1) in
     let m = or-parts (ltb most-elements (countIn bytes)) _ (b .0) in
     let m′ = or-parts (not (eqb (twoBytesAt bytes 4) header-length)) _ (m .1) in
     let m″ = or-parts (not (eqb (twoBytesAt bytes 6) (header-length + countIn bytes))) _ (m′ .1) in
     let c = nowhere _ (firstWhere (levelBreaks bytes) (countIn bytes)) _ (b .1) in
-    let d = nowhere _ (firstWhere (labelBreaks bytes) (countIn bytes)) _ (c .1) in
+    let d = nowhere _ (firstWhere (labelBreaks bytes (countIn bytes)) (countIn bytes)) _ (c .1) in
     let f = neither _ BadDepth None (d .1) in
     record {
       long = ltb-false (length bytes) header-length (head .0);
@@ -82,8 +82,8 @@ accepted bytes e =
       labels-at = equal (twoBytesAt bytes 6) (header-length + countIn bytes) (m″ .0);
       whole = equal (length bytes) (rollLength (countIn bytes)) (m″ .1);
       levels-keep = first-none-all (levelBreaks bytes) (countIn bytes) (c .0);
-      labels-keep = first-none-all (labelBreaks bytes) (countIn bytes) (d .0);
-      depth-keeps = ltb-false (greatestDepth bytes) (depthIn bytes) (f .0);
+      labels-keep = first-none-all (labelBreaks bytes (countIn bytes)) (countIn bytes) (d .0);
+      depth-keeps = ltb-false (greatestDepth bytes (countIn bytes)) (depthIn bytes) (f .0);
     }
 
 unequal : (a b : ℕ) → a ≡ b → not (eqb a b) ≡ false
@@ -102,8 +102,8 @@ accepted-is bytes a =
     (or-from _ _ (unequal _ header-length (a .levels-at))
     (or-from _ _ (unequal _ (header-length + countIn bytes) (a .labels-at)) (unequal _ (rollLength (countIn bytes)) (a .whole)))))
     ∙ passed _ (firstWhere (levelBreaks bytes) (countIn bytes)) _ (first-none (levelBreaks bytes) (countIn bytes) (a .levels-keep))
-    ∙ passed _ (firstWhere (labelBreaks bytes) (countIn bytes)) _ (first-none (labelBreaks bytes) (countIn bytes) (a .labels-keep))
-    ∙ cond-false _ (Some BadDepth) None (le-ltb (greatestDepth bytes) (depthIn bytes) (a .depth-keeps))
+    ∙ passed _ (firstWhere (labelBreaks bytes (countIn bytes)) (countIn bytes)) _ (first-none (labelBreaks bytes (countIn bytes)) (countIn bytes) (a .labels-keep))
+    ∙ cond-false _ (Some BadDepth) None (le-ltb (greatestDepth bytes (countIn bytes)) (depthIn bytes) (a .depth-keeps))
 
 -- The rule of a level v after a level u, as a test and as facts.
 abbrev breaks : ℕ → ℕ → ℕ → Bool

@@ -1,5 +1,6 @@
 pub mod Limits
 pub mod Receipt
+pub mod Rules
 pub mod Refusals
 pub mod Runs
 pub mod Roll

@@ -50,6 +50,10 @@ elementsIn bytes n = map (elementIn bytes n) (counting 0 n)
 abbrev pub receiptIn : List ℕ → Receipt
 receiptIn bytes = record { elements = elementsIn bytes (countIn bytes); depth = depthIn bytes }
 
+-- too short for a roll, or of another edition
+abbrev pub foreign : List ℕ → Bool
+foreign bytes = ltb (length bytes) header-length || not (eqb (byteAt bytes 0) edition)
+
 -- The count is at most the greatest, the offsets are where levels and labels begin, and nothing is missing or left over.
 abbrev pub misplaced : List ℕ → Bool
 misplaced bytes =
@@ -63,12 +67,12 @@ levelBreaks bytes i = cond (eqb i 0) (not (eqb (byteAt bytes (levelPlace i)) 0))
     (eqb (byteAt bytes (levelPlace i)) 0
     || (ltb (byteAt bytes (levelPlace (i - 1)) + 1) (byteAt bytes (levelPlace i)) || leb most-depth (byteAt bytes (levelPlace i))))
 
-abbrev pub labelBreaks : List ℕ → ℕ → Bool
-labelBreaks bytes i = eqb (byteAt bytes (labelPlace (countIn bytes) i)) 0 || ltb most-label (byteAt bytes (labelPlace (countIn bytes) i))
+abbrev pub labelBreaks : List ℕ → ℕ → ℕ → Bool
+labelBreaks bytes n i = eqb (byteAt bytes (labelPlace n i)) 0 || ltb most-label (byteAt bytes (labelPlace n i))
 
 -- The depth is 0 where there are no elements, and else at most one more than the last level.
-abbrev pub greatestDepth : List ℕ → ℕ
-greatestDepth bytes = cond (eqb (countIn bytes) 0) 0 (byteAt bytes (levelPlace (countIn bytes - 1)) + 1)
+abbrev pub greatestDepth : List ℕ → ℕ → ℕ
+greatestDepth bytes n = cond (eqb n 0) 0 (byteAt bytes (levelPlace (n - 1)) + 1)
 
 -- a fault at the rank that a search found, or else what is next
 abbrev pub faultAt : (ℕ → RollFault) → Option ℕ → Option RollFault → Option RollFault
@@ -78,11 +82,11 @@ faultAt f (Some i) next = Some (f i)
 -- The first reason that applies, in this order.
 unfoldable pub readingFault : List ℕ → Option RollFault
 readingFault bytes =
-    cond (ltb (length bytes) header-length || not (eqb (byteAt bytes 0) edition)) (Some NoRoll)
+    cond (foreign bytes) (Some NoRoll)
     (cond (misplaced bytes) (Some BadLayout)
     (faultAt (λ i. BadLevel (levelPlace i)) (firstWhere (levelBreaks bytes) (countIn bytes))
-    (faultAt (λ i. BadLabel (labelPlace (countIn bytes) i)) (firstWhere (labelBreaks bytes) (countIn bytes))
-    (cond (ltb (greatestDepth bytes) (depthIn bytes)) (Some BadDepth) None))))
+    (faultAt (λ i. BadLabel (labelPlace (countIn bytes) i)) (firstWhere (labelBreaks bytes (countIn bytes)) (countIn bytes))
+    (cond (ltb (greatestDepth bytes (countIn bytes)) (depthIn bytes)) (Some BadDepth) None))))
 
 -- the outcome of a check
 abbrev pub outcome : Option RollFault → Result (Unit {0}) RollFault
