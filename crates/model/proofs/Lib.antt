@@ -6,3 +6,8 @@ pub mod Runs
 pub mod Rolls
 pub mod Calls
 pub mod Listed
+pub mod Firsts
+pub mod Siblings
+pub mod Numbers
+pub mod Readings
+pub mod ReadBack

@@ -1,8 +1,10 @@
 pub mod Limits
 pub mod Receipt
+pub mod Rules
 pub mod Refusals
 pub mod Runs
 pub mod Roll
+pub mod Reading
 pub mod Plane
 pub mod Axes
 pub mod Query

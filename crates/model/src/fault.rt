@@ -63,9 +63,19 @@ pub impl Fault for ReceiptFault as ReceiptFaultIsFault {
     }
 }
 
-// Why a roll is not written.
+// Why bytes are not read as a roll, or a roll is not written.
 #[derive(Clone, Copy, PartialEq, Eq, Debug)]
 pub enum RollFault {
+    // The bytes are too few for a roll, or of another edition.
+    NoRoll,
+    // The count is too great, an offset is wrong, or the length does not fit the count.
+    BadLayout,
+    // The level at this byte, and at none before it, breaks its rule.
+    BadLevel(usize),
+    // The label at this byte, and at none before it, is 0 or too great.
+    BadLabel(usize),
+    // The depth is too great for the last level.
+    BadDepth,
     // The memory is shorter than the roll.
     ShortMemory,
 }
@@ -74,12 +84,18 @@ pub impl Fault for RollFault as RollFaultIsFault {
     ghost refusal = { rollRefusal };
 
     fn refusal(&self) -> Refusal {
-        match self {
-            RollFault::ShortMemory => Refusal {
-                number: 21,
-                layer: Layer::Roll,
-                place: 0,
-            },
+        let (number, place) = match self {
+            RollFault::NoRoll => (16, 0),
+            RollFault::BadLayout => (17, 0),
+            RollFault::BadLevel(at) => (18, *at),
+            RollFault::BadLabel(at) => (19, *at),
+            RollFault::BadDepth => (20, 1),
+            RollFault::ShortMemory => (21, 0),
+        };
+        Refusal {
+            number,
+            layer: Layer::Roll,
+            place,
         }
     }
 }

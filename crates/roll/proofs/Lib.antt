@@ -1,1 +1,4 @@
 pub mod Copy
+pub mod Checked
+pub mod Kept
+pub mod Back

@@ -4,14 +4,10 @@ ghost use Prim.Native.Nat.{ℕ, _+_, _*_, _/_, _%_, _<_, _≤_};
 ghost use lib.ListN.{length, getD};
 ghost use Rattle.model.specs.Receipt.{countOf, labelAt, levelAt};
 ghost use Rattle.model.specs.Roll.{header as headerBytes, memoryAfter, rollLength, rollOf, writing};
+use crate::layout::EDITION;
+use crate::layout::HEADER_LENGTH;
 use model::fault::RollFault;
 use store::Store;
-
-// The edition of the rolls that are written.
-const EDITION: u8 = 1;
-
-// The bytes before the levels.
-const HEADER_LENGTH: usize = 8;
 
 // How many bytes the roll of the store's receipt has.
 pub fn roll_length<S: Store>(store: &S) -> usize
