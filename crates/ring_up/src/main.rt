@@ -1,39 +1,23 @@
 // Rings up receipts from the lines of a task, prints each step, and writes their rolls.
 use model::action::Action;
 use model::fault::Fault;
-use model::fault::Layer;
 use model::fault::ReceiptFaultIsFault;
-use model::fault::Refusal;
 use model::fault::RollFaultIsFault;
+use report::print_refusal;
+use roll::Roll;
+use roll::RollStore;
 use roll::write::write_roll;
 use script::Command;
 use script::read_command;
 use std::io;
 use store::Store;
 use store::next_place;
+use store::same_receipt;
 use till::Till;
 use till::TillStore;
 
 // Room for the roll of a full receipt.
 const ROLL_SPACE: usize = 520;
-
-fn layer_name(layer: Layer) -> &'static str {
-    match layer {
-        Layer::Till => "till",
-        Layer::Receipt => "receipt",
-        Layer::Names => "names",
-        Layer::Query => "query",
-        Layer::Roll => "roll",
-        Layer::Count => "count",
-    }
-}
-
-fn print_refusal(rt: &LibcRuntime, refusal: Refusal) -> io::Result<()> {
-    let number = refusal.number;
-    let place = refusal.place;
-    let layer = layer_name(refusal.layer);
-    println!(rt, "refused: {number}, layer {layer}, place {place}")
-}
 
 fn open(rt: &LibcRuntime, till: &mut Till, label: u16) -> io::Result<()> {
     match till.open(label) {
@@ -57,15 +41,26 @@ fn close(rt: &LibcRuntime, till: &mut Till) -> io::Result<()> {
     }
 }
 
-fn print_bytes(rt: &LibcRuntime, bytes: &[u8], length: usize) -> io::Result<()> {
+fn print_bytes(rt: &LibcRuntime, bytes: &[u8]) -> io::Result<()> {
+    let length = bytes.len();
     print!(rt, "roll of {length} bytes:")?;
-    for byte in bytes.iter().take(length) {
+    for byte in bytes {
         print!(rt, " {byte:02X}")?;
     }
     println!(rt, "")
 }
 
-// Writes the roll into so many bytes of the memory, or into all of it.
+// Reads a roll that was just written, and says whether it tells the till's receipt.
+fn read_back(rt: &LibcRuntime, till: &Till, bytes: &[u8]) -> io::Result<()> {
+    let roll = Roll::read(bytes);
+    match roll.fault() {
+        Some(fault) => print_refusal(rt, fault.refusal()),
+        None if same_receipt(till, &roll) => println!(rt, "read back: the same receipt"),
+        None => println!(rt, "read back: another receipt"),
+    }
+}
+
+// Writes the roll into so many bytes of the memory, or into all of it, and reads it back.
 fn write(
     rt: &LibcRuntime,
     till: &Till,
@@ -77,7 +72,10 @@ fn write(
         None => ROLL_SPACE,
     };
     match write_roll(till, &mut memory[0..room]) {
-        Ok(length) => print_bytes(rt, &*memory, length),
+        Ok(length) => {
+            print_bytes(rt, &memory[0..length])?;
+            read_back(rt, till, &memory[0..length])
+        }
         Err(fault) => print_refusal(rt, fault.refusal()),
     }
 }

@@ -24,11 +24,11 @@ module _ (r s : Receipt) (count : countOf r ≡ countOf s) where
       let a = lt-ltb k (countOf r) h in
       let b = lt-ltb k (countOf s) (omega arith) in
       same-element (getD (r .elements) k absent) (getD (s .elements) k absent)
-        (same-value (labelOf r k) (labelOf s k) (labelAt r k) (labelAt s k) (cond-true (ltb k (countOf r)) (Some (labelAt r k)) None a) (cond-true (ltb k (countOf s)) (Some (labelAt s k)) None b) p)
-        (same-value (levelOf r k) (levelOf s k) (levelAt r k) (levelAt s k) (cond-true (ltb k (countOf r)) (Some (levelAt r k)) None a) (cond-true (ltb k (countOf s)) (Some (levelAt s k)) None b) q)
+      (same-value (labelOf r k) (labelOf s k) (labelAt r k) (labelAt s k) (cond-true (ltb k (countOf r)) (Some (labelAt r k)) None a) (cond-true (ltb k (countOf s)) (Some (labelAt s k)) None b) p)
+      (same-value (levelOf r k) (levelOf s k) (levelAt r k) (levelAt s k) (cond-true (ltb k (countOf r)) (Some (levelAt r k)) None a) (cond-true (ltb k (countOf s)) (Some (levelAt s k)) None b) q)
 
   pub same-receipt : r .depth ≡ s .depth → ((k : ℕ) → k < countOf r → (labelOf r k ≡ labelOf s k) × (levelOf r k ≡ levelOf s k)) → r ≡ s
   same-receipt d each =
       let es : r .elements ≡ s .elements = same-lists (r .elements) (s .elements) count
-            (λ k e h. getD-default (r .elements) k e absent h ∙ same-at k h (each k h .0) (each k h .1) ∙ getD-default (s .elements) k absent e (omega arith)) in
+      (λ k e h. getD-default (r .elements) k e absent h ∙ same-at k h (each k h .0) (each k h .1) ∙ getD-default (s .elements) k absent e (omega arith)) in
       ap (λ (xs : List Element). let x : Receipt = record { elements = xs; depth = r .depth } in x) es ∙ ap (λ v. let x : Receipt = record { elements = s .elements; depth = v } in x) d
