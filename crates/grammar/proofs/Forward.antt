@@ -12,9 +12,10 @@ use Rattle.model.specs.Grammar.{axis-text, TestTree, star, test-text, PathTree,
 use Rattle.model.specs.Grammar as g
 use Rattle.model.specs.declared.axis.Axis.{Axis}
 use Rattle.model.specs.declared.axis.Axis.the-variants.{Itself, Child, Parent, DescendantOrSelf, AncestorOrSelf, Descendant, Ancestor, FollowingSibling, PrecedingSibling, Following, Preceding}
-use Rattle.grammar.specs.Machine.{Frame, bracket, paren, State, lit, axis, orSelf, orSibling, afterP, test, name, held, step, done, joint, atom, shut, Next, dead, go, lits, onShut, onDone, onStep, onHeld, onName, onAxis, on, Out, run, stops, taken}
+use Rattle.grammar.specs.Machines.{Next, dead, go, Out, stops, taken}
+use Rattle.grammar.specs.Machine.{Frame, bracket, paren, State, lit, axis, orSelf, orSibling, afterP, test, name, held, step, done, joint, atom, shut, lits, onShut, onDone, onStep, onHeld, onName, onAxis, on, run}
 
-abbrev pub go-on : List ℕ → Next → Out
+abbrev pub go-on : List ℕ → Next State → Out
 go-on t dead = stops (suc (length t))
 go-on t (go s) = run s t
 
