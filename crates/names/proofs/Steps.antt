@@ -6,12 +6,11 @@ use Prim.Native.Nat.{ℕ, suc, _+_, _-_, _<_, _≤_}
 use native.Mathlib.Omega.{arith}
 use lib.Dec.{eqb}
 use lib.ListN.{length, getD, drop}
-use Rattle.std.specs.declared.option.Option.{Option}
-use Rattle.std.specs.declared.option.Option.the-variants.{Some, None}
 use Rattle.std.proofs.shelf.Lists.{at-drop-more, at-drop-all, length-drop}
 use Rattle.std.proofs.shelf.Tests.{eq-eqb, ne-eqb}
 use Rattle.names.specs.Sheet.{lineEnds}
-use Rattle.names.specs.Rule.{fresh, roomAfter, Out, taken, stops, run}
+use Rattle.grammar.specs.Machines.{Next, dead, go, Out, taken, stops}
+use Rattle.names.specs.Rule.{fresh, roomAfter, run}
 
 pub ends-more : (t : List ℕ) (i : ℕ) → i < length t → getD t i 0 ≡ 10 → lineEnds (drop i t) ≡ lineEnds (drop (i + 1) t) + 1
 ends-more t i h e = at-drop-more lineEnds t i 0 h ∙ ap (λ (v : Bool). cond v (lineEnds (drop (i + 1) t) + 1) (lineEnds (drop (i + 1) t))) (eq-eqb (getD t i 0) 10 e)
@@ -23,14 +22,14 @@ pub no-ends : (t : List ℕ) (i : ℕ) → length t ≤ i → lineEnds (drop i t
 no-ends t i h = at-drop-all lineEnds t i h
 
 -- what follows a byte that leaves this room
-abbrev pub go-on : List ℕ → Option ℕ → Out
-go-on t None = stops (suc (length t))
-go-on t (Some r) = run r t
+abbrev pub go-on : List ℕ → Next ℕ → Out
+go-on t dead = stops (suc (length t))
+go-on t (go r) = run r t
 
-pub run-on : (room r : ℕ) (t : List ℕ) (i : ℕ) → i < length t → Some r ≡ roomAfter room (getD t i 0) → run room (drop i t) ≡ run r (drop (i + 1) t)
+pub run-on : (room r : ℕ) (t : List ℕ) (i : ℕ) → i < length t → go r ≡ roomAfter room (getD t i 0) → run room (drop i t) ≡ run r (drop (i + 1) t)
 run-on room r t i h e = at-drop-more (run room) t i 0 h ∙ ap (go-on (drop (i + 1) t)) (sym e)
 
-pub run-stops : (room : ℕ) (t : List ℕ) (i : ℕ) → i < length t → None ≡ roomAfter room (getD t i 0) → run room (drop i t) ≡ stops (length t - i)
+pub run-stops : (room : ℕ) (t : List ℕ) (i : ℕ) → i < length t → dead ≡ roomAfter room (getD t i 0) → run room (drop i t) ≡ stops (length t - i)
 run-stops room t i h e = at-drop-more (run room) t i 0 h ∙ ap (go-on (drop (i + 1) t)) (sym e) ∙ ap stops (simp length-drop (omega arith))
 
 pub run-ends : (room : ℕ) (t : List ℕ) (i : ℕ) → length t ≤ i → room ≡ fresh → run room (drop i t) ≡ taken

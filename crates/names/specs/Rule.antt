@@ -1,32 +1,34 @@
 -- A byte machine that takes exactly the runs of names; contracts of the code cite it, and a theorem joins it to the sheets.
 use mathlib.Core.Path.{_≡_}
-use mathlib.Core.List.{List, [], _∷_}
-use mathlib.Core.Bool.{Bool, true, false, cond, _&&_}
-use Prim.Native.Nat.{ℕ, suc, _-_, _≤_}
+use mathlib.Core.List.{List}
+use mathlib.Core.Bool.{Bool, cond, _&&_}
+use Prim.Native.Nat.{ℕ, _-_, _≤_}
 use lib.Dec.{eqb, ltb}
 use lib.ListN.{length}
 use Rattle.std.specs.declared.option.Option.{Option}
 use Rattle.std.specs.declared.option.Option.the-variants.{Some, None}
-use Rattle.model.specs.Names.{isLetter, isNameByte}
+use Rattle.model.specs.Names.{most-name, isLetter, isNameByte}
+use Rattle.grammar.specs.Machines.{Next, dead, go, Out, taken, stops, runs}
 
--- a name that has not begun has room for this many bytes
+-- The state is the room that is left in the name: a name that has not begun has all of it.
 abbrev pub fresh : ℕ
-fresh = 24
+fresh = most-name
 
--- What room the byte leaves, or none where it is refused: a name begins with a letter; once begun, it may end, or go on while there is room.
-abbrev pub roomAfter : ℕ → ℕ → Option ℕ
+-- A name begins with a letter; once begun, it may end, or go on while there is room.
+abbrev pub roomAfter : ℕ → ℕ → Next ℕ
 roomAfter room b =
-    cond (eqb room fresh) (cond (isLetter b) (Some (room - 1)) None)
-    (cond (eqb b 10) (Some fresh) (cond (ltb 0 room && isNameByte b) (Some (room - 1)) None))
+    cond (eqb room fresh) (cond (isLetter b) (go (room - 1)) dead) (cond (eqb b 10) (go fresh) (cond (ltb 0 room && isNameByte b) (go (room - 1)) dead))
 
--- The bytes are taken, or the machine stops with so many left.
-pub data Out : Type 0 where
-  taken : Out
-  stops : ℕ → Out
+abbrev pub isFresh : ℕ → Bool
+isFresh room = eqb room fresh
 
 abbrev pub run : ℕ → List ℕ → Out
-run room [] = cond (eqb room fresh) taken (stops 0)
-run room (b ∷ t) = elim (roomAfter room b) [ None ↦ stops (suc (length t)) | Some r ↦ run r t ]
+run room t = runs roomAfter isFresh room t
+
+-- the answer of a step as the machine has it
+abbrev pub toNext : Option ℕ → Next ℕ
+toNext None = dead
+toNext (Some r) = go r
 
 -- the place at which the machine stops on the bytes, or none
 abbrev pub Stopped : List ℕ → Option ℕ → Type 0

@@ -2,9 +2,9 @@
 use mathlib.Core.Path.{_≡_}
 use mathlib.Core.List.{List, [], _∷_, _++_}
 use mathlib.Core.Bool.{Bool, true, false, cond, _&&_}
-use Prim.Native.Nat.{ℕ, suc, _+_, _≤_, _<_}
+use Prim.Native.Nat.{ℕ, _+_, _≤_}
 use lib.Dec.{eqb}
-use lib.ListN.{length, take}
+use lib.ListN.{length}
 use Rattle.std.specs.Options.{isSome}
 use Rattle.std.specs.shelf.Text.{sameBytes}
 use Rattle.std.specs.declared.option.Option.{Option}
@@ -12,6 +12,7 @@ use Rattle.std.specs.declared.option.Option.the-variants.{Some, None}
 use Rattle.std.specs.declared.result.Result.{Result}
 use Rattle.std.specs.declared.result.Result.the-variants.{Ok, Err}
 use Rattle.model.specs.Names.{isName}
+use Rattle.model.specs.Places.{BreaksIn}
 use Rattle.names.specs.declared.NamesFault.{NamesFault}
 use Rattle.names.specs.declared.NamesFault.the-variants.{TooMuch, BadName, Repeated}
 
@@ -37,15 +38,9 @@ pub record Run (t : List ℕ) : Type 0 where
   pub lawful : areNames names ≡ true
   pub written : t ≡ sheet-text names
 
-abbrev pub Begins : List ℕ → Type 0
-Begins t = (rest : List ℕ) × Run (t ++ rest)
-
 -- The bytes are no run of names, and the place is the least p whose first p + 1 bytes begin none, else their number.
-pub record Breaks (t : List ℕ) (p : ℕ) : Type 0 where
-  pub within : p ≤ length t
-  pub before : (q : ℕ) → q ≤ p → Begins (take q t)
-  pub at : p < length t → Begins (take (p + 1) t) → ⊥
-  pub whole : Run t → ⊥
+abbrev pub Breaks : List ℕ → ℕ → Type 0
+Breaks t p = BreaksIn Run t p
 
 -- The rows of any bytes: those runs that byte 10 ends. `row` is what stands before the bytes in the first one.
 abbrev pub rowsAfter : List ℕ → List ℕ → List (List ℕ)

@@ -2,8 +2,8 @@
 ghost use mathlib.Core.Path.{_≡_};
 ghost use lib.ListN.{length};
 ghost use Rattle.model.specs.Names.{isLetter, isNameByte};
-ghost use Rattle.names.specs.Sheet.{labelIn, lineEnds};
-ghost use Rattle.names.specs.Rule.{roomAfter, Stopped};
+ghost use Rattle.names.specs.Sheet.{labelIn, lineEnds, rows, firstRepeat, Checked};
+ghost use Rattle.names.specs.Rule.{roomAfter, toNext, Stopped};
 ghost use Rattle.names.specs.Refusals.{namesRefusal};
 use model::fault::Fault;
 use model::fault::Layer;
@@ -96,7 +96,7 @@ fn line_ends(sheet: &[u8]) -> usize
 
 // What room the byte leaves in its name, or none where it is refused.
 fn next(room: usize, b: u8) -> Option<usize>
-    ensures { λ r. ⌜ r ≡ roomAfter room b ⌝ }
+    ensures { λ r. ⌜ toNext r ≡ roomAfter room b ⌝ }
 {
     if room == MOST_NAME {
         if is_letter(b) { Some(room - 1) } else { None }
@@ -124,5 +124,38 @@ fn broken(sheet: &[u8]) -> Option<usize>
         None
     } else {
         Some(sheet.len())
+    }
+}
+
+// Where the first row begins that stands earlier too, if there is one.
+fn repeat(sheet: &[u8]) -> Option<usize>
+    ensures { λ r. ⌜ r ≡ firstRepeat (rows (now (sheet .entry))) ⌝ }
+{
+    let mut start = 0;
+    for (i, b) in sheet.iter().enumerate() {
+        if *b == LINE_END {
+            if label(&sheet[..start], &sheet[start..i]).is_some() {
+                return Some(start);
+            }
+            start = i + 1;
+        }
+    }
+    None
+}
+
+// Checks a sheet of any contents: the number of its names, or why it is refused.
+pub fn check(sheet: &[u8]) -> Result<usize, NamesFault>
+    ensures { λ r. ⌜ Checked (now (sheet .entry)) r ⌝ }
+{
+    let ends = line_ends(sheet);
+    if sheet.len() > MOST_SHEET || ends > MOST_NAMES {
+        return Err(NamesFault::TooMuch);
+    }
+    match broken(sheet) {
+        Some(p) => Err(NamesFault::BadName(p)),
+        None => match repeat(sheet) {
+            Some(p) => Err(NamesFault::Repeated(p)),
+            None => Ok(ends),
+        },
     }
 }
