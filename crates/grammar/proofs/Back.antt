@@ -18,7 +18,8 @@ use Rattle.grammar.specs.Machines.{Next, dead, go, Out, stops, taken}
 use Rattle.grammar.specs.Machine.{Frame, bracket, paren, State, lit, axis, orSelf, orSibling, afterP, test, name, held, step, done, joint, atom, shut, lits, onShut, onDone, onStep, onHeld, onName, onAxis, on, run, begin}
 use Rattle.grammar.proofs.Stopping.{clash}
 use Rattle.grammar.proofs.Forward.{go-on}
-use Rattle.grammar.proofs.Chains.{Tail, no-tail, tail, Join, by-and, by-or, Joins, no-join, joined, Hold, no-hold, hold, tail-text, word, joins-text, hold-text, mk-step, mk-path, mk-ors, ors-is, step-is, path-is}
+use Rattle.grammar.specs.Joins.{Join, by-and, by-or, Joins, no-join, joined, word, joins-text}
+use Rattle.grammar.proofs.Chains.{Tail, no-tail, tail, Hold, no-hold, hold, tail-text, hold-text, mk-step, mk-path, mk-ors, ors-is, step-is, path-is}
 
 -- the texts that a state may still take, in the grammar's words
 abbrev LDone : List Frame → List ℕ → Type 0

@@ -14,7 +14,8 @@ use Rattle.model.specs.declared.axis.Axis.{Axis}
 use Rattle.model.specs.declared.axis.Axis.the-variants.{Itself, Child, Parent, Descendant, Ancestor, DescendantOrSelf, AncestorOrSelf, FollowingSibling, PrecedingSibling, Following, Preceding}
 use Rattle.grammar.specs.Theorems.{Unambiguous}
 use Rattle.grammar.proofs.Forward.{No, NoName}
-use Rattle.grammar.proofs.Chains.{Tail, no-tail, tail, Join, by-and, by-or, Joins, no-join, joined, Hold, no-hold, hold, tail-text, word, joins-text, hold-text, mk-step, mk-path, mk-ors, step-is, first-of, joins-of, chain-again, chain-text}
+use Rattle.grammar.specs.Joins.{Join, by-and, by-or, Joins, no-join, joined, word, joins-text}
+use Rattle.grammar.proofs.Chains.{Tail, no-tail, tail, Hold, no-hold, hold, tail-text, hold-text, mk-step, mk-path, mk-ors, step-is, first-of, joins-of, chain-again, chain-text}
 
 -- Axes: the first one whose text the bytes begin with.
 data Found : Type 0 where

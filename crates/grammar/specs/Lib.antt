@@ -1,3 +1,4 @@
 pub mod Machines
 pub mod Machine
+pub mod Joins
 pub mod Theorems
