@@ -147,7 +147,7 @@ ParsedStep sheet = Parsed step-text (step-drafted sheet) axis step
 abbrev ParsedPath : List ℕ → List ℕ → List ℕ → Draft → Draft → Type 0
 ParsedPath sheet = Parsed path-text (path-drafted sheet) axis done
 
-abbrev ParsedSpine : List ℕ → List ℕ → List ℕ → Draft → Draft → Type 0
+abbrev pub ParsedSpine : List ℕ → List ℕ → List ℕ → Draft → Draft → Type 0
 ParsedSpine sheet = Parsed path-text (spine-drafted sheet) axis done
 
 abbrev ParsedFilter : List ℕ → List ℕ → List ℕ → Draft → Draft → Type 0

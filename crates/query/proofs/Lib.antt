@@ -1,2 +1,6 @@
 pub mod Moves
 pub mod Compose
+pub mod Built
+pub mod Noted
+pub mod Depth
+pub mod Whole
