@@ -1,20 +1,18 @@
 -- Back: what the machine takes is the text of a tree.
 use mathlib.Core.Path.{_≡_, refl, sym, _∙_, ap}
 use mathlib.Core.List.{List, [], _∷_, _++_, append-assoc, append-nil}
-use mathlib.Core.Bool.{Bool, true, false, cond, _&&_, _||_}
+use mathlib.Core.Bool.{Bool, true, false, cond, _&&_}
 use mathlib.Core.Logic.{_⊎_, inl, inr}
 use Prim.Native.Nat.{ℕ, zero, suc}
-use native.Mathlib.Omega.{arith}
 use lib.Chars.{codes}
 use lib.Dec.{eqb}
-use lib.ListN.{length, getD}
 use borrow.Author.Tests.{eqb-true}
 use Rattle.model.specs.Names.{isLetter, isNameByte, areNameBytes}
-use Rattle.model.specs.Grammar.{axis-text, TestTree, star, test-text, PathTree, StepTree, OrChain, AndChain, Atom, one, slash, bare, ands, or, and, along, parens, negate, path-text, step-text, or-text, and-text, atom-text, Query}
+use Rattle.model.specs.Grammar.{axis-text, TestTree, star, test-text, PathTree, Atom, ands, and, along, parens, negate, path-text, or-text, atom-text, Query}
 use Rattle.model.specs.Grammar as g
 use Rattle.model.specs.declared.axis.Axis.{Axis}
 use Rattle.model.specs.declared.axis.Axis.the-variants.{Itself, Child, Parent, DescendantOrSelf, AncestorOrSelf, Descendant, Ancestor, FollowingSibling, PrecedingSibling, Following, Preceding}
-use Rattle.grammar.specs.Machines.{Next, dead, go, Out, stops, taken}
+use Rattle.grammar.specs.Machines.{Next, dead, go, taken}
 use Rattle.grammar.specs.Machine.{Frame, bracket, paren, State, lit, axis, orSelf, orSibling, afterP, test, name, held, step, done, joint, atom, shut, lits, onShut, onDone, onStep, onHeld, onName, onAxis, on, run, begin}
 use Rattle.grammar.proofs.Stopping.{clash}
 use Rattle.grammar.proofs.Forward.{go-on}

@@ -1,13 +1,12 @@
 -- Places: where the machine stops is the place at which the text breaks the grammar.
 use mathlib.Core.Path.{_≡_, refl, sym, _∙_, ap}
-use mathlib.Core.List.{List, [], _∷_, _++_, append-nil, append-assoc}
-use mathlib.Core.Bool.{Bool, true, false, cond}
+use mathlib.Core.List.{List, [], _∷_, _++_, append-nil}
+use mathlib.Core.Bool.{Bool, cond}
 use Prim.Native.Nat.{ℕ, _-_}
 use lib.Chars.{codes}
-use lib.ListN.{length, getD, take, drop}
-use lib.Dec.{eqb}
+use lib.ListN.{length}
 use Rattle.std.proofs.shelf.Tests.{eq-eqb}
-use Rattle.model.specs.Grammar.{PathTree, path-text, Query, Breaks}
+use Rattle.model.specs.Grammar.{path-text, Query, Breaks}
 use Rattle.grammar.specs.Machines.{Out, stops, taken, dead, go}
 use Rattle.grammar.specs.Machine.{Frame, bracket, paren, State, lit, axis, orSelf, orSibling, afterP, test, name, held, step, done, joint, atom, shut, lits, on, ends, run, begin}
 use Rattle.grammar.proofs.Forward.{go-on, no-more, no-held, no-name, No, NoName, path-runs}

@@ -2,13 +2,13 @@
 use mathlib.Core.Path.{_≡_, refl, sym, _∙_, ap, subst}
 use mathlib.Core.List.{List, [], _∷_, _++_}
 use mathlib.Core.Bool.{Bool, true, false, cond}
-use mathlib.Core.Logic.{_⊎_, inl, inr, ⊎-elim}
+use mathlib.Core.Logic.{_⊎_, ⊎-elim}
 use Prim.Native.Nat.{ℕ, zero, suc, _+_, _-_, _<_, _≤_}
 use native.Mathlib.Numerals.{add-one}
 use native.Mathlib.Omega.{arith}
 use lib.ListN.{length, take}
 use Rattle.std.proofs.shelf.Tests.{cases-lt}
-use Rattle.model.specs.Places.{Texts, BeginsIn, BreaksIn}
+use Rattle.model.specs.Places.{Texts, BreaksIn}
 use Rattle.grammar.specs.Machines.{Next, dead, go, Out, taken, stops, runs}
 
 pub clash : (n : ℕ) → stops n ≡ taken → ⊥

@@ -1,15 +1,15 @@
 -- Places: the machine takes exactly the runs of names, so where it stops the bytes break them.
 use mathlib.Core.Path.{_≡_, refl, sym, _∙_, ap}
-use mathlib.Core.List.{List, [], _∷_, _++_, append-assoc}
+use mathlib.Core.List.{List, [], _∷_, _++_}
 use mathlib.Core.Bool.{Bool, true, false, cond, _&&_}
-use mathlib.Core.Logic.{_⊎_, inl, inr, ⊎-elim}
-use Prim.Native.Nat.{ℕ, zero, suc, _+_, _-_, _<_, _≤_}
+use mathlib.Core.Logic.{_⊎_, ⊎-elim}
+use Prim.Native.Nat.{ℕ, zero, suc, _+_, _-_, _<_}
 use native.Mathlib.Omega.{arith}
-use lib.Dec.{eqb, ltb}
+use lib.Dec.{ltb}
 use lib.ListN.{length}
 use Rattle.std.proofs.shelf.Tests.{eq-eqb, ne-eqb, lt-ltb, cases-eq, cases-bool, and-parts, and-from, false≢true}
-use Rattle.model.specs.Names.{isLetter, isNameByte, areNameBytes, isName}
-use Rattle.grammar.specs.Machines.{Next, dead, go, Out, taken, stops}
+use Rattle.model.specs.Names.{isLetter, isNameByte, areNameBytes}
+use Rattle.grammar.specs.Machines.{Next, dead, go, taken, stops}
 use Rattle.grammar.proofs.Stopping.{clash, breaks-in}
 use Rattle.names.specs.Sheet.{sheet-text, areNames, Run, Breaks}
 use Rattle.names.specs.Rule.{fresh, roomAfter, isFresh, run}

@@ -8,7 +8,7 @@ use lib.Dec.{eqb}
 use lib.ListN.{length}
 use Rattle.std.specs.declared.option.Option.the-variants.{Some, None}
 use Rattle.std.proofs.shelf.Tests.{ne-eqb, and-parts, false≢true}
-use Rattle.model.specs.Names.{isLetter, isNameByte, areNameBytes, isName}
+use Rattle.model.specs.Names.{isLetter, isNameByte, areNameBytes}
 use Rattle.grammar.specs.Machines.{stops, taken}
 use Rattle.names.specs.Sheet.{sheet-text, areNames, Run, Breaks, rowsAfter, rows, lineEnds, firstRepeat, Small, Accepted, RepeatsAt}
 use Rattle.names.specs.Rule.{fresh, run}

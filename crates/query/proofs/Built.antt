@@ -1,12 +1,11 @@
 -- Built: the parts that a tree drafts read as its formula, as long as there is room for them.
-use mathlib.Core.Path.{_≡_, refl, sym, _∙_, ap}
+use mathlib.Core.Path.{_≡_, refl, _∙_, ap}
 use mathlib.Core.List.{List, [], _∷_, _++_}
-use mathlib.Core.Bool.{Bool, true, false, cond}
+use mathlib.Core.Bool.{Bool, cond}
 use Prim.Native.Nat.{ℕ, _+_, _-_, _*_, _<_, _≤_}
 use native.Mathlib.Omega.{arith}
 use lib.Chars.{codes}
-use lib.Dec.{ltb}
-use lib.ListN.{length, getD, take, set}
+use lib.ListN.{length, take, set}
 use Rattle.std.proofs.shelf.Lists.{take-more-set, length-set, length-append, length-take-le, getD-append-left, getD-push}
 use Rattle.std.proofs.shelf.Tests.{lt-ltb}
 use Rattle.std.specs.declared.option.Option.{Option}
@@ -22,9 +21,9 @@ use Rattle.names.specs.Sheet.{labelIn}
 use Rattle.query.specs.declared.draft.Draft.{Draft}
 use Rattle.query.specs.declared.table.Part.{Part}
 use Rattle.query.specs.declared.table.Tag.{Tag}
-use Rattle.query.specs.declared.table.Tag.the-variants.{First, Any, Named, Along, And, Or, Not}
+use Rattle.query.specs.declared.table.Tag.the-variants.{Any, Named, Along, And, Or, Not}
 use Rattle.query.specs.Table.{formulaAt, tagged, formulaOf, formulasAfter, formulas}
-use Rattle.query.specs.Drafts.{part, added, counted, noted, root, joinedTo, reached, labelled, joining, test-drafted, step-axis, step-drafted, path-drafted, or-drafted, and-drafted, atom-drafted, linked, spine-drafted}
+use Rattle.query.specs.Drafts.{part, added, counted, noted, root, joinedTo, reached, labelled, test-drafted, step-axis, step-drafted, path-drafted, or-drafted, and-drafted, atom-drafted, linked, spine-drafted}
 use Rattle.query.specs.Answers.{orZero}
 
 -- one part more

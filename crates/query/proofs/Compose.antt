@@ -1,12 +1,12 @@
 -- Compose: what a reader promises follows from what the readers that it calls promise.
 use mathlib.Core.Path.{_≡_, refl, sym, _∙_, ap}
 use mathlib.Core.List.{List, [], _∷_, _++_, append-assoc}
-use mathlib.Core.Bool.{Bool, true, false, cond, _&&_}
-use Prim.Native.Nat.{ℕ, zero, suc, _+_, _-_, _<_, _≤_}
+use mathlib.Core.Bool.{Bool, true, false, cond}
+use Prim.Native.Nat.{ℕ, suc, _+_, _-_, _≤_}
 use native.Mathlib.Omega.{arith}
 use lib.Chars.{codes}
 use lib.Dec.{eqb}
-use lib.ListN.{length, getD, take, drop, length-append}
+use lib.ListN.{length, getD, take, length-append}
 use denote.Ref.{RefT, now}
 use Rattle.std.proofs.shelf.Tests.{ne-eqb, and-from, false≢true}
 use Rattle.std.proofs.shelf.Lists.{take-at}
@@ -17,9 +17,9 @@ use Rattle.std.specs.declared.result.Result.the-variants.{Ok, Err}
 use Rattle.model.specs.Names.{isLetter, isNameByte, areNameBytes}
 use Rattle.model.specs.declared.axis.Axis.{Axis}
 use Rattle.model.specs.Axes.{inverse}
-use Rattle.model.specs.Grammar.{TestTree, star, test-text, PathTree, StepTree, OrChain, AndChain, Atom, one, slash, bare, ands, or, and, along, parens, negate, axis-text, path-text, step-text, or-text, and-text, atom-text}
+use Rattle.model.specs.Grammar.{star, test-text, PathTree, OrChain, AndChain, Atom, one, slash, bare, ands, or, and, along, parens, negate, axis-text, path-text, step-text, or-text, and-text, atom-text}
 use Rattle.model.specs.Grammar as g
-use Rattle.grammar.specs.Machines.{Next, dead, go, stops}
+use Rattle.grammar.specs.Machines.{dead, go, stops}
 use Rattle.grammar.specs.Machine.{Frame, bracket, paren, State, lits, axis, test, name, held, step, done, joint, atom, shut, onShut, onDone, onStep, onHeld, onName, onAxis, on, run}
 use Rattle.grammar.specs.Joins.{Join, by-and, by-or, word, Joins, no-join, joined, joins-text}
 use Rattle.grammar.proofs.Forward.{go-on, held-assoc}
@@ -27,10 +27,10 @@ use Rattle.grammar.proofs.Chains.{mk-ors, ors-is}
 use Rattle.names.specs.Sheet.{labelIn}
 use Rattle.query.specs.declared.axes.Stuck.{Stuck}
 use Rattle.query.specs.declared.draft.Draft.{Draft}
-use Rattle.query.specs.declared.table.Tag.the-variants.{First, Any, Named, Along, And, Or, Not}
+use Rattle.query.specs.declared.table.Tag.the-variants.{Any, Along, And, Not}
 use Rattle.query.specs.Spells.{Takes, Stops}
-use Rattle.query.specs.Drafts.{part, added, counted, noted, root, joinedTo, reached, closed, labelled, joining, test-drafted, step-axis, step-drafted, path-drafted, or-drafted, and-drafted, atom-drafted, linked, spine-drafted, joins-drafted}
-use Rattle.query.specs.Parsed.{Parsed, Read, inside, NameRead, TestRead, StepRead, PathRead, SpineRead, FilterRead, AtomRead, JoinsRead, WordRead, Shut}
+use Rattle.query.specs.Drafts.{part, added, counted, root, joinedTo, reached, closed, labelled, joining, test-drafted, step-axis, step-drafted, path-drafted, or-drafted, and-drafted, atom-drafted, linked, spine-drafted, joins-drafted}
+use Rattle.query.specs.Parsed.{Parsed, inside, NameRead, PathRead, SpineRead, FilterRead, AtomRead, JoinsRead, Shut}
 use Rattle.query.proofs.Moves.{Not as IsNot}
 
 -- a reading that stops after a part that leads to another state

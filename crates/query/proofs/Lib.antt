@@ -4,3 +4,4 @@ pub mod Built
 pub mod Noted
 pub mod Depth
 pub mod Whole
+pub mod Exact

@@ -1,10 +1,9 @@
 -- Moves: what a byte that is read, or that is another, makes of the machine.
 use mathlib.Core.Path.{_≡_, refl, sym, _∙_, ap}
 use mathlib.Core.List.{List, [], _∷_, _++_, append-assoc}
-use mathlib.Core.Bool.{Bool, true, false, cond}
-use Prim.Native.Nat.{ℕ, suc, _+_, _-_, _<_, _≤_}
+use mathlib.Core.Bool.{Bool, cond}
+use Prim.Native.Nat.{ℕ, _+_, _-_, _≤_}
 use native.Mathlib.Omega.{arith}
-use lib.Dec.{eqb}
 use lib.ListN.{length, getD, take, drop}
 use denote.Ref.{RefT, now}
 use borrow.Author.Tests.{ne-eqb, eq-eqb}
@@ -14,9 +13,8 @@ use Rattle.std.specs.declared.result.Result.the-variants.{Ok, Err}
 use Rattle.query.specs.declared.axes.Stuck.{Stuck}
 use Rattle.model.specs.declared.axis.Axis.{Axis}
 use Rattle.model.specs.Grammar.{axis-text}
-use mathlib.Core.Logic.{_⊎_, inl, inr}
-use lib.Chars.{codes}
-use Rattle.grammar.specs.Machines.{Next, dead, go, Out, stops}
+use mathlib.Core.Logic.{inl, inr}
+use Rattle.grammar.specs.Machines.{dead, go}
 use Rattle.grammar.specs.Machine.{Frame, State, lit, lits, axis, orSelf, orSibling, afterP, test, on, run}
 use Rattle.query.specs.Spells.{Takes, Stops, Spells, Spelt, Either, Names}
 use Rattle.grammar.proofs.Forward.{go-on}

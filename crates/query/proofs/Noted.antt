@@ -6,7 +6,7 @@ use mathlib.Core.Logic.{⊎-elim}
 use Prim.Native.Nat.{ℕ, _+_, _-_, _<_, _≤_}
 use native.Mathlib.Omega.{arith}
 use lib.Chars.{codes}
-use lib.Dec.{ltb, leb}
+use lib.Dec.{ltb}
 use lib.ListN.{length, set}
 use Rattle.std.proofs.shelf.Tests.{le-leb, lt-leb, cases-lt}
 use Rattle.std.specs.Options.{isSome}
@@ -19,8 +19,8 @@ use Rattle.model.specs.Grammar as g
 use Rattle.names.specs.Sheet.{labelIn}
 use Rattle.query.specs.declared.draft.Draft.{Draft}
 use Rattle.query.specs.declared.table.Part.{Part}
-use Rattle.query.specs.declared.table.Tag.the-variants.{Any, Named, Along, And, Or, Not}
-use Rattle.query.specs.Drafts.{part, added, counted, firstOf, noted, root, joinedTo, reached, labelled, joining, test-drafted, step-axis, step-drafted, path-drafted, or-drafted, and-drafted, atom-drafted, linked, spine-drafted}
+use Rattle.query.specs.declared.table.Tag.the-variants.{Any, Named}
+use Rattle.query.specs.Drafts.{part, added, counted, firstOf, labelled, test-drafted, step-axis, step-drafted, path-drafted, or-drafted, and-drafted, atom-drafted, linked, spine-drafted}
 use Rattle.query.specs.Answers.{test-names, path-names, step-names, or-names, and-names, atom-names, firstUnknown}
 use Rattle.query.proofs.Built.{label}
 

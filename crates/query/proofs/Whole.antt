@@ -5,13 +5,12 @@ use mathlib.Core.Bool.{Bool, cond}
 use mathlib.Core.Logic.{⊎-elim}
 use Prim.Native.Nat.{ℕ, _+_, _-_, _*_, _<_, _≤_}
 use native.Mathlib.Omega.{arith}
-use lib.ListN.{length, take, drop}
+use lib.ListN.{length, take}
 use Rattle.std.proofs.shelf.Lists.{nil-from-length, length-take-le}
 use Rattle.std.proofs.shelf.Tests.{cases-lt, ne-eqb}
 use Rattle.std.specs.declared.option.Option.the-variants.{Some, None}
-use Rattle.model.specs.Query.{path-length}
 use Rattle.model.specs.Verdict.{first, query-formula}
-use Rattle.model.specs.Grammar.{PathTree, path-text, Reads, Query, Breaks}
+use Rattle.model.specs.Grammar.{PathTree, path-text, Breaks}
 use Rattle.grammar.specs.Machines.{dead, go, stops}
 use Rattle.grammar.specs.Machine.{axis, done, begin, run}
 use Rattle.grammar.proofs.Forward.{go-on}
@@ -23,12 +22,12 @@ use Rattle.query.specs.declared.QueryFault.the-variants.{BadSize, Broken, TooD
 use Rattle.query.specs.Spells.{Stops}
 use Rattle.query.specs.Drafts.{started, spine-drafted}
 use Rattle.query.specs.Table.{reading, formulaAt, formulas}
-use Rattle.query.specs.Answers.{Sized, Sound, Accepted, Refused, deepPlace, unknownLeft, meaning, lengthOf, places}
+use Rattle.query.specs.Answers.{Sized, Accepted, Refused, unknownLeft, meaning, lengthOf, places}
 use Rattle.query.specs.Limits.{Tree, Limited, Copied}
 use Rattle.query.proofs.Moves.{Not as IsNot}
 use Rattle.query.proofs.Compose.{ParsedSpine}
 use Rattle.query.proofs.Built.{Ready, Built, spine-built}
-use Rattle.query.proofs.Noted.{Noted, spine-noted}
+use Rattle.query.proofs.Noted.{spine-noted}
 
 -- The grammar's side.
 past-end : (t : List ℕ) → (length t ≡ 0 → ⊥) → run (done []) t ≡ stops (length t)

@@ -1,6 +1,6 @@
 -- What each part of a tree adds to a draft: the readers' contracts cite it, and theorems say what the draft then reads as.
-use mathlib.Core.List.{List, [], _∷_, _++_}
-use mathlib.Core.Bool.{Bool, cond}
+use mathlib.Core.List.{List, _∷_, _++_}
+use mathlib.Core.Bool.{cond}
 use Prim.Native.Nat.{ℕ, _+_, _-_}
 use lib.Chars.{codes}
 use lib.Dec.{ltb, leb}

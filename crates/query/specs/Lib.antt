@@ -5,3 +5,4 @@ pub mod Parsed
 pub mod Answers
 pub mod Limits
 pub mod Refusals
+pub mod Theorems

@@ -1,18 +1,17 @@
 -- What the readers promise: a tree was read off the front of the text and drafted, or the byte machine stops there.
 use mathlib.Core.Path.{_≡_}
 use mathlib.Core.List.{List, _∷_, _++_}
-use mathlib.Core.Bool.{Bool, true, false}
+use mathlib.Core.Bool.{true}
 use Prim.Native.Nat.{ℕ, _≤_}
-use lib.Dec.{eqb}
 use lib.ListN.{length, getD}
 use denote.Ref.{RefT, now}
 use Rattle.std.specs.declared.option.Option.{Option}
 use Rattle.std.specs.declared.result.Result.{Result}
 use Rattle.std.specs.declared.result.Result.the-variants.{Ok, Err}
 use Rattle.model.specs.declared.axis.Axis.{Axis}
-use Rattle.model.specs.Names.{isNameByte, areNameBytes}
-use Rattle.model.specs.Grammar.{TestTree, test-text, StepTree, step-text, PathTree, path-text, OrChain, or-text, Atom, atom-text}
-use Rattle.grammar.specs.Joins.{Join, by-and, by-or, word, Joins, joins-text}
+use Rattle.model.specs.Names.{areNameBytes}
+use Rattle.model.specs.Grammar.{test-text, step-text, path-text, or-text, atom-text}
+use Rattle.grammar.specs.Joins.{Join, by-and, by-or, word, joins-text}
 use Rattle.grammar.specs.Machine.{Frame, State, axis, test, name, held, step, done, joint, atom, shut}
 use Rattle.query.specs.declared.axes.Stuck.{Stuck}
 use Rattle.query.specs.declared.draft.Draft.{Draft}

@@ -1,9 +1,8 @@
 -- What the readers of single words and axes promise, in terms of the byte machine.
 use mathlib.Core.Path.{_≡_}
-use mathlib.Core.List.{List, [], _∷_, _++_}
+use mathlib.Core.List.{List, _++_}
 use mathlib.Core.Logic.{_⊎_}
-use Prim.Native.Nat.{ℕ, _<_, _≤_, _+_}
-use lib.Chars.{codes}
+use Prim.Native.Nat.{ℕ, _≤_, _+_}
 use lib.ListN.{length}
 use denote.Ref.{RefT, now}
 use Rattle.model.specs.Grammar.{axis-text}

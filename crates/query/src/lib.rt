@@ -5,6 +5,7 @@ ghost use Prim.Native.Nat.{_≤_};
 ghost use lib.ListN.{length};
 ghost use Rattle.query.specs.Limits.{Drafted, Limited, Copied};
 ghost use Rattle.query.specs.Refusals.{queryRefusal};
+ghost use Rattle.query.specs.Theorems.{Fitting-is-accepted, One-fault};
 
 mod axes;
 mod draft;
@@ -178,4 +179,18 @@ pub fn read(text: &[u8], sheet: &[u8], table: &mut [Part]) -> Result<QuerySize, 
             }
         },
     }
+}
+
+// A text that is a query and within all limits is refused by nothing: it is accepted.
+pub fn fitting_is_accepted() -> u8
+    ensures { λ _. ⌜ Fitting-is-accepted ⌝ }
+{
+    0
+}
+
+// At most one fault applies to a text.
+pub fn one_fault() -> u8
+    ensures { λ _. ⌜ One-fault ⌝ }
+{
+    0
 }

@@ -1,5 +1,4 @@
 use mathlib.Core.Path.{_≡_}
-use Prim.Native.Nat.{_≤_}
 use lib.ListN.{drop}
 use Rattle.names.specs.Rule.{fresh, run}
 use Rattle.names.proofs.broken.Given as given

@@ -1,5 +1,4 @@
 use native.Mathlib.Omega.{arith}
-use Rattle.names.specs.Sheet.{Small}
 use Rattle.names.proofs.Sheets.{accepted, repeats, broken-at}
 use Rattle.names.proofs.check.Needs as need
 

@@ -1,6 +1,6 @@
 use borrow.Author.Needs.{needs}
 use Prim.Native.Nat.{_-_}
-use lib.ListN.{length, getD, take, drop}
+use lib.ListN.{getD}
 use Rattle.query.proofs.Moves.{front, spells-none, spells-more, spells-not}
 use Rattle.query.proofs.axes.+word.Needs as need
 

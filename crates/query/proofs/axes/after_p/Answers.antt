@@ -1,10 +1,10 @@
 use borrow.Author.Needs.{needs}
 use mathlib.Core.Path.{refl}
-use mathlib.Core.List.{[], _++_}
+use mathlib.Core.List.{_++_}
 use lib.Chars.{codes}
-use Rattle.model.specs.declared.axis.Axis.the-variants.{Itself, Child, Parent, DescendantOrSelf, AncestorOrSelf, Descendant, Ancestor, FollowingSibling, PrecedingSibling, Following, Preceding}
-use Rattle.grammar.specs.Machine.{axis, afterP, orSelf, orSibling, lits}
-use Rattle.query.proofs.Moves.{front, names-spelt, names-either, names-names, no-axis, no-afterP}
+use Rattle.model.specs.declared.axis.Axis.the-variants.{Parent, PrecedingSibling, Preceding}
+use Rattle.grammar.specs.Machine.{afterP, orSibling, lits}
+use Rattle.query.proofs.Moves.{front, names-spelt, names-either, no-afterP}
 use Rattle.query.proofs.axes.after_p.Needs as need
 
 pub returns-in-97 : need.returns-in-97

@@ -2,9 +2,9 @@ use borrow.Author.Needs.{needs}
 use mathlib.Core.Path.{refl}
 use mathlib.Core.List.{[], _++_}
 use lib.Chars.{codes}
-use Rattle.model.specs.declared.axis.Axis.the-variants.{Itself, Child, Parent, DescendantOrSelf, AncestorOrSelf, Descendant, Ancestor, FollowingSibling, PrecedingSibling, Following, Preceding}
+use Rattle.model.specs.declared.axis.Axis.the-variants.{Itself, Child, DescendantOrSelf, AncestorOrSelf, Descendant, Ancestor, FollowingSibling, Following}
 use Rattle.grammar.specs.Machine.{axis, afterP, orSelf, orSibling, lits}
-use Rattle.query.proofs.Moves.{front, names-spelt, names-either, names-names, no-axis, no-afterP}
+use Rattle.query.proofs.Moves.{front, names-spelt, names-either, names-names, no-axis}
 use Rattle.query.proofs.axes.read_axis.Needs as need
 
 pub returns-in-115 : need.returns-in-115
