@@ -1,0 +1,7 @@
+pub mod Moves
+pub mod Compose
+pub mod Built
+pub mod Noted
+pub mod Depth
+pub mod Whole
+pub mod Exact
