@@ -4,6 +4,8 @@ pub mod Bounds
 pub mod Opening
 pub mod Runs
 pub mod Rolls
+pub mod Calls
+pub mod Listed
 pub mod Firsts
 pub mod Siblings
 pub mod Numbers

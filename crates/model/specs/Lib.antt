@@ -12,3 +12,5 @@ pub mod Names
 pub mod Grammar
 pub mod Selection
 pub mod Verdict
+pub mod Show
+pub mod Calls

@@ -12,3 +12,7 @@ most-label = 250
 -- the depth at which nothing more opens
 abbrev pub most-depth : ℕ
 most-depth = 16
+
+-- the greatest rate; the least is 1
+abbrev pub most-rate : ℕ
+most-rate = 1000

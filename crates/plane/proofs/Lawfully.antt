@@ -1,17 +1,14 @@
--- Every run keeps a receipt lawful.
+-- Openings and closings that are not refused keep a receipt lawful.
 use mathlib.Core.Path.{_≡_, refl}
-use mathlib.Core.List.{List, [], _∷_}
 use Prim.Native.Nat.{ℕ, _≤_, _<_}
 use native.Mathlib.Omega.{arith}
 use Rattle.std.proofs.shelf.Ways.{tells}
 use Rattle.std.specs.declared.option.Option.{Option}
 use Rattle.std.specs.declared.option.Option.the-variants.{Some, None}
-use Rattle.model.specs.declared.action.Action.{Action}
-use Rattle.model.specs.declared.action.Action.the-variants.{Open, Close}
 use Rattle.model.specs.declared.fault.ReceiptFault.{ReceiptFault}
 use Rattle.model.specs.Limits.{most-elements, most-label, most-depth}
 use Rattle.model.specs.Receipt.{Receipt, Lawful, countOf, empty, opened, closed}
-use Rattle.model.specs.Runs.{openingFault, closingFault, afterOne, after, unlessFault}
+use Rattle.model.specs.Runs.{openingFault, unlessFault}
 use Rattle.model.proofs.Opening.{opened-lawful}
 
 -- What an opening that is not refused has met.
@@ -54,11 +51,3 @@ closing-lawful r w = record {
 pub unless : (P : Receipt → Type 0) (o : Option ReceiptFault) (s r : Receipt) → (o ≡ None → P s) → P r → P (unlessFault o s r)
 unless P None s r c w = c refl
 unless P (Some f) s r c w = w
-
-pub after-one-lawful : (a : Action) (r : Receipt) → Lawful r → Lawful (afterOne a r)
-after-one-lawful (Open l) r w = unless Lawful (openingFault l r) (opened r l) r (opening-lawful r l w) w
-after-one-lawful Close r w = unless Lawful (closingFault r) (closed r) r (λ e. closing-lawful r w) w
-
-pub after-lawful : (as-list : List Action) (r : Receipt) → Lawful r → Lawful (after as-list r)
-after-lawful [] r w = w
-after-lawful (a ∷ rest) r w = after-lawful rest (afterOne a r) (after-one-lawful a r w)

@@ -8,16 +8,16 @@ use Rattle.std.proofs.shelf.Tests.{cases-lt}
 use Rattle.std.specs.declared.option.Option.the-variants.{None}
 use Rattle.model.specs.declared.action.Action.{Action}
 use Rattle.model.specs.declared.action.Action.the-variants.{Open, Close}
-use Rattle.model.specs.Receipt.{Receipt, Lawful, countOf, opened, closed}
+use Rattle.model.specs.Receipt.{Element, Receipt, Lawful, countOf, opened, closed}
 use Rattle.model.specs.Axes.{leads}
 use Rattle.model.specs.Runs.{openingFault, closingFault, afterOne, after}
-use Rattle.model.proofs.Opening.{count-more}
+use Rattle.model.proofs.Opening.{count-more, label-old}
 use Rattle.plane.specs.Steady.{Continues, RelationsStay}
 use Rattle.plane.proofs.Lawfully.{empty-lawful, unless, opening-lawful, closing-lawful}
 use Rattle.plane.proofs.Steady.{leads-opened, leads-closed, leads-new, leads-inverse, grows-opened, grows-closed, grows-ended, backward-never-grows}
 
 continues-same : (r : Receipt) → Lawful r → Continues r r
-continues-same r w = record { lawful = w; longer = omega arith; kept = λ a x y h k. refl; nothing-new = λ a x y h e b c. absurd (omega arith); shut = λ a x h e. e }
+continues-same r w = record { lawful = w; longer = omega arith; label-kept = λ x h. refl; kept = λ a x y h k. refl; nothing-new = λ a x y h e b c. absurd (omega arith); shut = λ a x h e. e }
 
 continues-opened : (r : Receipt) (l : ℕ) → Lawful r → openingFault l r ≡ None → Continues r (opened r l)
 continues-opened r l w f =
@@ -25,6 +25,7 @@ continues-opened r l w f =
     record {
       lawful = opening-lawful r l w f;
       longer = omega arith;
+      label-kept = λ x h. ap (λ (e : Element). e .label) (label-old r l x h);
       kept = leads-opened r l w f;
       nothing-new = λ a x y h e b c. let q : y ≡ countOf r = omega arith in ap (leads (opened r l) a x) q ∙ leads-new r l w f a x h e;
       shut = grows-opened r l w f;
@@ -34,6 +35,7 @@ continues-closed : (r : Receipt) → Lawful r → closingFault r ≡ None → Co
 continues-closed r w f = record {
   lawful = closing-lawful r w;
   longer = omega arith;
+  label-kept = λ x h. refl;
   kept = λ a x y h k. leads-closed r a x y;
   nothing-new = λ a x y h e b c. absurd (omega arith);
   shut = grows-closed r w f;
@@ -46,6 +48,7 @@ continues-trans r s t a b =
     record {
       lawful = b .lawful;
       longer = omega arith;
+      label-kept = λ x h. b .label-kept x (omega arith) ∙ a .label-kept x h;
       kept = λ c x y h k. b .kept c x y (omega arith) (omega arith) ∙ a .kept c x y h k;
       nothing-new = λ c x y h e k j. ⊎-elim
           (λ (q : y < countOf s). b .kept c x y (omega arith) q ∙ a .nothing-new c x y h e k q)

@@ -20,8 +20,7 @@ use Rattle.model.proofs.Opening.{level-old, level-new, parent-old, count-more}
 use Rattle.model.proofs.Relatives.{parent-some}
 use Rattle.plane.proofs.Below.{Below, parent-below, ancestor-is}
 use Rattle.plane.proofs.Block.{descends-is, follows-is, first-above, level-later}
-use Rattle.plane.proofs.Lawfully.{openable}
-pub use Rattle.plane.proofs.Lawfully.{opening-lawful, closing-lawful, empty-lawful, after-one-lawful, after-lawful}
+use Rattle.plane.proofs.Lawfully.{openable, opening-lawful, closing-lawful}
 use Rattle.plane.proofs.Unchanged.{Agree, leads-agrees, agree-closed}
 
 false-unless : (b : Bool) → (b ≡ true → ⊥) → b ≡ false

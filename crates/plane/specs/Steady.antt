@@ -1,11 +1,11 @@
--- What stays of the axes as a receipt goes on.
+-- What stays of the labels and the axes as a receipt goes on.
 use mathlib.Core.Path.{_≡_}
 use mathlib.Core.List.{List}
 use mathlib.Core.Bool.{true, false}
 use Prim.Native.Nat.{ℕ, _≤_, _<_}
 use Rattle.model.specs.declared.action.Action.{Action}
 use Rattle.model.specs.declared.axis.Axis.{Axis}
-use Rattle.model.specs.Receipt.{Receipt, Lawful, countOf, hasEnded, empty}
+use Rattle.model.specs.Receipt.{Receipt, Lawful, countOf, labelAt, hasEnded, empty}
 use Rattle.model.specs.Axes.{leads, inverse, isBackward, grows}
 use Rattle.model.specs.Runs.{after}
 
@@ -13,6 +13,7 @@ use Rattle.model.specs.Runs.{after}
 pub record Continues (r s : Receipt) : Type 0 where
   pub lawful : Lawful s
   pub longer : countOf r ≤ countOf s
+  pub label-kept : (x : ℕ) → x < countOf r → labelAt s x ≡ labelAt r x
   -- Where an axis leads between present elements stays.
   pub kept : (a : Axis) (x y : ℕ) → x < countOf r → y < countOf r → leads s a x y ≡ leads r a x y
   -- Where it does not grow, it leads to no element that came later,

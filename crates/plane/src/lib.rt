@@ -9,7 +9,7 @@ pub fn plane_is_tree() -> u8
     0
 }
 
-// Where the axes lead between present elements stays as the receipt goes on, and where an axis does not grow nothing is added.
+// Labels, and where the axes lead between present elements, stay as the receipt goes on, and where an axis does not grow nothing is added.
 pub fn relations_stay() -> u8
     ensures { λ _. ⌜ RelationsStay ⌝ }
 {

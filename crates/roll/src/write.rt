@@ -2,6 +2,7 @@
 ghost use mathlib.Core.Path.{_≡_};
 ghost use Prim.Native.Nat.{ℕ, _+_, _*_, _/_, _%_, _<_, _≤_};
 ghost use lib.ListN.{length, getD};
+ghost use Rattle.std.specs.Results.{Cases};
 ghost use Rattle.model.specs.Receipt.{countOf, labelAt, levelAt};
 ghost use Rattle.model.specs.Roll.{header as headerBytes, memoryAfter, rollLength, rollOf, writing};
 use crate::layout::EDITION;
@@ -87,6 +88,7 @@ fn roll_byte<S: Store>(store: &S, head: &[u8; HEADER_LENGTH], at: usize) -> u8
 pub fn write_roll<S: Store>(store: &S, memory: &mut [u8]) -> Result<usize, RollFault>
     ensures answers { λ r. ⌜ r ≡ writing (receipt (now (store .entry))) (now (memory .entry)) ⌝ }
     ensures leaves { λ r. ⌜ now (memory .exit) ≡ memoryAfter (receipt (now (store .entry))) (now (memory .entry)) ⌝ }
+    ensures bound { λ r. ⌜ Cases r (λ n. n ≤ length (now (memory .entry))) (λ _. Unit {0}) ⌝ }
 {
     let length = roll_length(store);
     if memory.len() < length {

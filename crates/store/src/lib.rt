@@ -1,6 +1,7 @@
 ghost use mathlib.Core.Path.{_≡_};
 ghost use Prim.Native.Nat.{ℕ, _+_, _<_, _≤_};
 ghost use Rattle.std.specs.Options.{Cases};
+ghost use Rattle.std.specs.Orderings.{Decides};
 ghost use Rattle.model.specs.Receipt.{Receipt, Lawful, countOf, levelAt, labelOf, levelOf, parentOf, firstChildOf, nextSiblingOf, previousSiblingOf, innermost, lastInside};
 
 // A store holds a lawful receipt, and each answer is that receipt's; a question changes nothing.
@@ -89,4 +90,26 @@ pub fn next_place<S: Store>(s: &S) -> Place
         parent: Some(at),
         previous,
     }
+}
+
+// Whether both stores have the same label and level at a rank.
+fn same_element<S: Store, U: Store>(s: &S, u: &U, rank: usize) -> bool
+    ensures { λ r. ⌜ Decides r ((labelOf (S·Store .receipt (now (s .entry))) rank ≡ labelOf (U·Store .receipt (now (u .entry))) rank) × (levelOf (S·Store .receipt (now (s .entry))) rank ≡ levelOf (U·Store .receipt (now (u .entry))) rank)) ⌝ }
+{
+    s.label(rank) == u.label(rank) && s.level(rank) == u.level(rank)
+}
+
+// Whether two stores hold the same receipt.
+pub fn same_receipt<S: Store, U: Store>(s: &S, u: &U) -> bool
+    ensures { λ r. ⌜ Decides r (S·Store .receipt (now (s .entry)) ≡ U·Store .receipt (now (u .entry))) ⌝ }
+{
+    if s.count() != u.count() || s.depth() != u.depth() {
+        return false;
+    }
+    for rank in 0..s.count() {
+        if !same_element(s, u, rank) {
+            return false;
+        }
+    }
+    true
 }

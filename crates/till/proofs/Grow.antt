@@ -19,7 +19,7 @@ use Rattle.model.proofs.Search.{last-some}
 use Rattle.model.proofs.Opening.{count-more, level-old, label-old, level-new, parent-old, parent-new, prev-old, prev-new, first-at, first-else, first-of-new, next-at, next-else, next-of-new, opened-lawful}
 use Rattle.till.specs.declared.link.Link.{Link}
 use Rattle.till.specs.declared.Till.{Till}
-use Rattle.till.specs.Links.{unused, element, told, mark, Fits, Linked, Reads, Stepped, Ranged, Ends, informed, withNext, withChild, lawfully}
+use Rattle.till.specs.Links.{unused, element, told, mark, Fits, Linked, Reads, Stepped, Ranged, Ends, informed, attached, withNext, withChild, lawfully}
 
 pub told-count : (ls : List Link) (n d : ℕ) → n ≤ length ls → countOf (told ls n d) ≡ n
 told-count ls n d h = let m = length-map ls element in length-take-le n (map element ls) (omega arith)
@@ -174,3 +174,12 @@ mark-same None None e = refl
 mark-same None (Some b) e = absurd (omega arith)
 mark-same (Some a) None e = absurd (omega arith)
 mark-same (Some a) (Some b) e = ap Some (omega arith)
+
+informed-else : (xs : List Link) (n i : ℕ) (u o : Option ℕ) → (u ≡ Some i → ⊥) → (o ≡ Some i → ⊥) → getD (informed xs n u o) i unused ≡ getD xs i unused
+informed-else xs n i u (Some q) a b = getD-set-other xs q i (withNext (getD xs q unused) n) unused (λ e. b (ap Some (sym e)))
+informed-else xs n i (Some p) None a b = getD-set-other xs p i (withChild (getD xs p unused) n) unused (λ e. a (ap Some (sym e)))
+informed-else xs n i None None a b = refl
+
+-- A record that is neither the new one nor told of it is as it was.
+pub attached-else : (ls ls′ : List Link) (n i : ℕ) (l : Link) → ls′ ≡ attached ls n l → i < n → (l .parent ≡ Some i → ⊥) → (l .previous ≡ Some i → ⊥) → getD ls′ i unused ≡ getD ls i unused
+attached-else ls ls′ n i l e h a b = ap (λ xs. getD xs i unused) e ∙ informed-else (set ls n l) n i (l .parent) (l .previous) a b ∙ getD-set-other ls n i l unused (λ m. omega arith)

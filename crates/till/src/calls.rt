@@ -4,7 +4,7 @@ ghost use lib.ListN.{length};
 ghost use Rattle.model.specs.Receipt.{Lawful, countOf, empty};
 ghost use Rattle.model.specs.Runs.{accepted, after, afterOne, answer, effects, faultOf};
 ghost use Rattle.model.specs.declared.action.Action.the-variants.{Open, Close};
-ghost use Rattle.till.specs.Held.{receiptOf};
+ghost use Rattle.till.specs.Held.{KeepsRecords, receiptOf};
 use crate::Till;
 use crate::TillStore;
 use crate::link::Link;
@@ -33,6 +33,7 @@ impl Till {
     pub fn open(&mut self, label: u16) -> Result<usize, ReceiptFault>
         ensures answers { λ r. ⌜ r ≡ answer (faultOf (Open label) (receiptOf (now (self .entry)))) (countOf (receiptOf (now (self .entry)))) ⌝ }
         ensures holds { λ r. ⌜ receiptOf (now (self .exit)) ≡ afterOne (Open label) (receiptOf (now (self .entry))) ⌝ }
+        ensures keeps { λ r. ⌜ KeepsRecords (now (self .entry)) (now (self .exit)) ⌝ }
     {
         if label == 0 || label > MOST_LABEL {
             return Err(ReceiptFault::BadLabel);

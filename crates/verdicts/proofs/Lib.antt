@@ -1,8 +1,8 @@
 pub mod SomeBelow
 pub mod Formulas
 pub mod KindLaws
-pub mod Continues
 pub mod Threes
 pub mod Standing
 pub mod Decided
 pub mod Sound
+pub mod Agree

@@ -124,6 +124,14 @@ pub told-plain : (b : Bool) → plainly three b ≡ plainly three (plainly yes-n
 told-plain true = refl
 told-plain false = refl
 
+pub told-in : (b : Bool) → plainly three b ≡ is-in → b ≡ true
+told-in true e = refl
+told-in false e = let z : _≡_ {A = ℕ} 0 1 = cc in absurd (omega arith)
+
+pub told-out : (b : Bool) → plainly three b ≡ is-out → b ≡ false
+told-out false e = refl
+told-out true e = let z : _≡_ {A = ℕ} 0 1 = cc in absurd (omega arith)
+
 pub told-over : (p : ℕ → Bool) (f : ℕ → Three) (g : ℕ → Bool) (n : ℕ) → ((j : ℕ) → j < n → Kept (f j) (plainly three (g j))) → Kept (orOver three p f n) (plainly three (orOver yes-no p g n))
 unfolding orOver
 told-over p f g zero k = same

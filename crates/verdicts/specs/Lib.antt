@@ -1,3 +1,4 @@
 pub mod Forward
 pub mod Laws
 pub mod Sound
+pub mod Agree

@@ -15,4 +15,4 @@ returns g c =
     let s =
     copied-whole (g .S·Store .receipt (c .args .store .now)) (c .args .memory .now) (c .loop-at .memory) (c .roll-length-length .result) (c .loop-at .at)
     (c .roll-length-length .ensures) (c .loop-at-test .left) (c .loop-at .kept .at-end) (omega arith) (c .loop-at .inv) in
-    record { answers = s .0; leaves = s .1 }
+    record { answers = s .0; leaves = s .1; bound = omega arith }

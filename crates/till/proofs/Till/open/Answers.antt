@@ -8,7 +8,7 @@ use Rattle.model.specs.Receipt.{opened, countOf}
 use Rattle.model.specs.Runs.{openingFault, unlessFault, answer}
 use Rattle.till.specs.Links.{told}
 use Rattle.till.specs.Held.{receiptOf}
-use Rattle.till.proofs.Grow.{held, grown, Held, up-below, prev-below, below-room}
+use Rattle.till.proofs.Grow.{held, grown, Held, up-below, prev-below, below-room, attached-else}
 use Rattle.till.proofs.Till.open.Needs as need
 use Rattle.till.proofs.Till.open.Needs.{After-attach, else-self-gt0·by·then-self-gt0·else-self-eq0, else-self-gt0·by·else-self-gt0}
 
@@ -49,4 +49,4 @@ returns c =
     let b = need.at·returns c .After-attach in
     let f = accepts b in
     let k = c .args .self .now .counted in
-    record { answers = ap Ok (sym k) ∙ sym (ap (λ o. answer o (countOf (receiptOf (c .args .self .now)))) f); holds = after b .1 ∙ sym (ap (λ o. unlessFault o (opened (receiptOf (c .args .self .now)) (c .args .label)) (receiptOf (c .args .self .now))) f) }
+    record { answers = ap Ok (sym k) ∙ sym (ap (λ o. answer o (countOf (receiptOf (c .args .self .now)))) f); holds = after b .1 ∙ sym (ap (λ o. unlessFault o (opened (receiptOf (c .args .self .now)) (c .args .label)) (receiptOf (c .args .self .now))) f); keeps = λ i h u p. attached-else (c .args .self .now .links) (c .attach .last .links) (c .args .self .now .count) i _ (c .attach .ensures) h (λ e. u (sym (c .next-place-place .ensures .parent) ∙ e)) (λ e. p (sym (c .next-place-place .ensures .previous) ∙ e)) }
