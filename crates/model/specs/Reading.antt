@@ -62,13 +62,17 @@ misplaced bytes =
     || (not (eqb (twoBytesAt bytes 6) (header-length + countIn bytes)) || not (eqb (length bytes) (rollLength (countIn bytes)))))
 
 -- The first level is 0; a later one is at least 1, at most one more than the level before, and below the greatest depth.
+abbrev pub wrongLevel : ℕ → ℕ → ℕ → Bool
+wrongLevel i before level = cond (eqb i 0) (not (eqb level 0)) (eqb level 0 || (ltb (before + 1) level || leb most-depth level))
+
 abbrev pub levelBreaks : List ℕ → ℕ → Bool
-levelBreaks bytes i = cond (eqb i 0) (not (eqb (byteAt bytes (levelPlace i)) 0))
-    (eqb (byteAt bytes (levelPlace i)) 0
-    || (ltb (byteAt bytes (levelPlace (i - 1)) + 1) (byteAt bytes (levelPlace i)) || leb most-depth (byteAt bytes (levelPlace i))))
+levelBreaks bytes i = wrongLevel i (byteAt bytes (levelPlace (i - 1))) (byteAt bytes (levelPlace i))
+
+abbrev pub wrongLabel : ℕ → Bool
+wrongLabel label = eqb label 0 || ltb most-label label
 
 abbrev pub labelBreaks : List ℕ → ℕ → ℕ → Bool
-labelBreaks bytes n i = eqb (byteAt bytes (labelPlace n i)) 0 || ltb most-label (byteAt bytes (labelPlace n i))
+labelBreaks bytes n i = wrongLabel (byteAt bytes (labelPlace n i))
 
 -- The depth is 0 where there are no elements, and else at most one more than the last level.
 abbrev pub greatestDepth : List ℕ → ℕ → ℕ

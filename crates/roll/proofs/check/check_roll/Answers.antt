@@ -4,7 +4,7 @@ use Rattle.std.specs.declared.result.Result.the-variants.{Err}
 use Rattle.model.specs.declared.fault.RollFault.the-variants.{BadLabel}
 use Rattle.model.specs.Receipt.{firstWhere}
 use Rattle.model.specs.Reading.{labelPlace, levelBreaks, labelBreaks, greatestDepth, outcome}
-use Rattle.roll.proofs.Checked.{no-roll, bad-layout, bad-level, bad-label, bad-depth, no-fault}
+use Rattle.model.proofs.FirstFault.{no-roll, bad-layout, bad-level, bad-label, bad-depth, no-fault}
 use Rattle.roll.proofs.check.check_roll.Needs as need
 
 pub returns-then-is-foreign : need.returns-then-is-foreign
