@@ -9,5 +9,6 @@ pub mod Listed
 pub mod Firsts
 pub mod Siblings
 pub mod Numbers
+pub mod FirstFault
 pub mod Readings
 pub mod ReadBack

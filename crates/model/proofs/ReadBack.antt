@@ -1,20 +1,18 @@
 -- The roll of a lawful receipt is accepted and tells that receipt.
 use mathlib.Core.Path.{_≡_, refl, sym, ap, _∙_}
 use mathlib.Core.List.{List, [], _∷_}
-use mathlib.Core.Bool.{Bool, true, false, cond, not, _||_}
+use mathlib.Core.Bool.{false, not}
 use mathlib.Core.Logic.{⊎-elim}
 use Prim.Native.Nat.{ℕ, _+_, _-_, _/_, _%_, _^_, _≤_, _<_}
 use native.Mathlib.Omega.{arith}
-use lib.ListN.{length, getD}
-use lib.Dec.{eqb, ltb, leb}
-use Rattle.std.specs.Iters.{counting}
+use lib.Dec.{eqb, ltb}
 use Rattle.std.proofs.shelf.Counted.{fill-by-all}
 use Rattle.std.proofs.shelf.Tests.{or-from, eq-eqb, ne-eqb, le-ltb, lt-leb, not-from-true, cases-eq, cond-true, cond-false}
 use Rattle.std.specs.declared.option.Option.the-variants.{None}
-use Rattle.model.specs.Limits.{most-elements, most-label, most-depth}
-use Rattle.model.specs.Receipt.{Element, Receipt, Lawful, absent, countOf, levelAt, labelAt}
-use Rattle.model.specs.Roll.{bigEndian, header, header-length, rollLength, rollOf}
-use Rattle.model.specs.Reading.{byteAt, numberIn, twoBytesAt, depthIn, countIn, levelPlace, labelPlace, elementIn, elementsIn, receiptIn, levelBreaks, labelBreaks, greatestDepth, readingFault}
+use Rattle.model.specs.Limits.{most-label, most-depth}
+use Rattle.model.specs.Receipt.{Receipt, Lawful, absent, countOf, levelAt, labelAt}
+use Rattle.model.specs.Roll.{header-length, rollOf}
+use Rattle.model.specs.Reading.{byteAt, numberIn, twoBytesAt, depthIn, countIn, levelPlace, labelPlace, elementIn, elementsIn, receiptIn, wrongLevel, levelBreaks, wrongLabel, labelBreaks, greatestDepth, readingFault}
 use Rattle.model.proofs.Numbers.{number-written}
 use Rattle.model.proofs.Readings.{Accepted, accepted-is}
 use Rattle.model.proofs.Rolls.{roll-long, roll-head, roll-level, roll-label}
@@ -23,14 +21,17 @@ two-written : (bytes : List ℕ) (at n : ℕ) → n < 256 ^ 2 → byteAt bytes a
 two-written bytes at n h p q =
     ap (λ x. numberIn (x ∷ byteAt bytes (at + 1) ∷ [])) p ∙ ap (λ y. numberIn ((n / 256) % 256 ∷ y ∷ [])) q ∙ number-written 2 n h
 
--- a rule's test is false where the rule holds
-keeps-first : (i v u : ℕ) → i ≡ 0 → v ≡ 0 → cond (eqb i 0) (not (eqb v 0)) (eqb v 0 || (ltb (u + 1) v || leb most-depth v)) ≡ false
-keeps-first i v u e z = cond-true (eqb i 0) (not (eqb v 0)) _ (eq-eqb i 0 e) ∙ not-from-true (eqb v 0) (eq-eqb v 0 z)
+-- Each test is false where its rule holds.
+keeps-first : (i u v : ℕ) → i ≡ 0 → v ≡ 0 → wrongLevel i u v ≡ false
+keeps-first i u v e z = cond-true (eqb i 0) (not (eqb v 0)) _ (eq-eqb i 0 e) ∙ not-from-true (eqb v 0) (eq-eqb v 0 z)
 
-keeps-later : (i v u : ℕ) → 0 < i → 1 ≤ v → v ≤ u + 1 → v < most-depth → cond (eqb i 0) (not (eqb v 0)) (eqb v 0 || (ltb (u + 1) v || leb most-depth v)) ≡ false
-keeps-later i v u h one up low =
+keeps-later : (i u v : ℕ) → 0 < i → 1 ≤ v → v ≤ u + 1 → v < most-depth → wrongLevel i u v ≡ false
+keeps-later i u v h one up low =
     cond-false (eqb i 0) (not (eqb v 0)) _ (ne-eqb i 0 (λ e. omega arith))
     ∙ or-from (eqb v 0) _ (ne-eqb v 0 (λ e. omega arith)) (or-from (ltb (u + 1) v) _ (le-ltb (u + 1) v up) (lt-leb most-depth v low))
+
+keeps-label : (v : ℕ) → 1 ≤ v → v ≤ most-label → wrongLabel v ≡ false
+keeps-label v low high = or-from (eqb v 0) _ (ne-eqb v 0 (λ e. omega arith)) (le-ltb most-label v high)
 
 module _ (r : Receipt) (w : Lawful r) where
   abbrev bytes : List ℕ
@@ -54,7 +55,7 @@ module _ (r : Receipt) (w : Lawful r) where
 
   level-keeps : (i : ℕ) → i < countOf r → levelBreaks bytes i ≡ false
   level-keeps i h = ⊎-elim
-      (λ (e : i ≡ 0). keeps-first i _ (byteAt bytes (levelPlace (i - 1))) e (level-back i h ∙ ap (levelAt r) e ∙ w .first (omega arith)))
+      (λ (e : i ≡ 0). keeps-first i (byteAt bytes (levelPlace (i - 1))) _ e (level-back i h ∙ ap (levelAt r) e ∙ w .first (omega arith)))
       (λ ne.
       let e : (i - 1) + 1 ≡ i = omega arith in
       let q = ap (levelAt r) e in
@@ -62,7 +63,7 @@ module _ (r : Receipt) (w : Lawful r) where
       let y = w .shallow i h in
       let u = level-back i h in
       let v = level-back (i - 1) (omega arith) in
-      keeps-later i (byteAt bytes (levelPlace i)) (byteAt bytes (levelPlace (i - 1))) (omega arith) (omega arith) (omega arith) (omega arith))
+      keeps-later i (byteAt bytes (levelPlace (i - 1))) (byteAt bytes (levelPlace i)) (omega arith) (omega arith) (omega arith) (omega arith))
       (cases-eq i 0)
 
   label-keeps : (i : ℕ) → i < countOf r → labelBreaks bytes (countIn bytes) i ≡ false
@@ -70,7 +71,7 @@ module _ (r : Receipt) (w : Lawful r) where
       let label = byteAt bytes (labelPlace (countIn bytes) i) in
       let v : label ≡ labelAt r i = ap (λ n. byteAt bytes (labelPlace n i)) count-back ∙ label-back i h in
       let x = w .named i h in
-      or-from (eqb label 0) _ (ne-eqb label 0 (λ e. omega arith)) (le-ltb most-label label (omega arith))
+      keeps-label label (omega arith) (omega arith)
 
   depth-keeps : depthIn bytes ≤ greatestDepth bytes (countIn bytes)
   depth-keeps = ⊎-elim

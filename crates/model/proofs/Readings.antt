@@ -1,29 +1,28 @@
 -- Bytes that are read as a roll: what acceptance says, and that rolls and accepted bytes are the same.
 use mathlib.Core.Path.{_≡_, refl, sym, ap, _∙_}
 use mathlib.Core.List.{List, [], _∷_, _++_}
-use mathlib.Core.Bool.{Bool, true, false, cond, not, _||_}
+use mathlib.Core.Bool.{Bool, true, false, cond, not}
 use mathlib.Core.Logic.{⊎-elim}
-use Prim.Native.Nat.{ℕ, zero, suc, _+_, _-_, _*_, _/_, _%_, _^_, _≤_, _<_}
+use Prim.Native.Nat.{ℕ, zero, suc, _+_, _-_, _≤_, _<_}
 use native.Mathlib.Omega.{arith}
 use lib.ListN.{length, getD}
-use lib.Dec.{eqb, ltb, leb}
-use Rattle.std.specs.Iters.{counting}
+use lib.Dec.{eqb, ltb}
 use Rattle.std.specs.shelf.Digits.{Under}
-use Rattle.std.proofs.shelf.Counted.{length-map-counting, getD-map-counting, fill-by-all}
+use Rattle.std.proofs.shelf.Counted.{length-map-counting, getD-map-counting}
 use Rattle.std.proofs.shelf.Lists.{ext-getD}
-use Rattle.std.proofs.shelf.Tests.{or-parts, or-from, not-false, not-from-true, eqb-true, eqb-false, eq-eqb, ne-eqb, ltb-false, le-ltb, leb-false, lt-leb, cases-eq, cases-lt, cond-true, cond-false, cond-both}
-use Rattle.std.proofs.shelf.Ways.{tells}
+use Rattle.std.proofs.shelf.Tests.{or-parts, or-from, not-false, not-from-true, eqb-true, eqb-false, eq-eqb, ne-eqb, ltb-false, le-ltb, leb-false, cases-eq, cases-lt, cond-true, cond-false, cond-both}
 use Rattle.std.specs.declared.option.Option.{Option}
 use Rattle.std.specs.declared.option.Option.the-variants.{Some, None}
 use Rattle.model.specs.declared.fault.RollFault.{RollFault}
-use Rattle.model.specs.declared.fault.RollFault.the-variants.{NoRoll, BadLayout, BadLevel, BadLabel, BadDepth}
+use Rattle.model.specs.declared.fault.RollFault.the-variants.{NoRoll, BadLayout, BadDepth}
 use Rattle.model.specs.Limits.{most-elements, most-label, most-depth}
-use Rattle.model.specs.Receipt.{Element, Receipt, Lawful, absent, countOf, levelAt, labelAt, firstWhere}
+use Rattle.model.specs.Receipt.{Element, Lawful, absent, labelAt, firstWhere}
 use Rattle.model.specs.Roll.{bigEndian, edition, header, header-length, rollLength, rollOf}
-use Rattle.model.specs.Reading.{byteAt, numberIn, twoBytesAt, depthIn, countIn, levelPlace, labelPlace, elementIn, elementsIn, receiptIn, foreign, misplaced, levelBreaks, labelBreaks, greatestDepth, faultAt, readingFault}
+use Rattle.model.specs.Reading.{byteAt, twoBytesAt, depthIn, countIn, levelPlace, labelPlace, elementIn, elementsIn, receiptIn, foreign, misplaced, wrongLevel, levelBreaks, wrongLabel, labelBreaks, greatestDepth, faultAt, readingFault}
 use Rattle.model.proofs.Search.{first-none}
 use Rattle.model.proofs.Firsts.{first-none-all}
-use Rattle.model.proofs.Numbers.{number-written, number-read}
+use Rattle.model.proofs.FirstFault.{no-fault}
+use Rattle.model.proofs.Numbers.{number-read}
 use Rattle.model.proofs.Rolls.{roll-long, roll-head, roll-level, roll-label}
 
 -- What n elements tell at each rank.
@@ -89,37 +88,28 @@ accepted bytes e =
 unequal : (a b : ℕ) → a ≡ b → not (eqb a b) ≡ false
 unequal a b e = not-from-true (eqb a b) (eq-eqb a b e)
 
-passed : (f : ℕ → RollFault) (o : Option ℕ) (next : Option RollFault) → o ≡ None → faultAt f o next ≡ next
-passed f None next e = refl
-passed f (Some i) next e = let z : _≡_ {A = ℕ} 0 1 = cc in absurd (omega arith)
-
 pub accepted-is : (bytes : List ℕ) → Accepted bytes → readingFault bytes ≡ None
-unfolding readingFault
 accepted-is bytes a =
-    cond-false _ (Some NoRoll) _ (or-from _ _ (le-ltb (length bytes) header-length (a .long)) (unequal (byteAt bytes 0) edition (a .edited)))
-    ∙ cond-false _ (Some BadLayout) _
+    no-fault bytes (or-from _ _ (le-ltb (length bytes) header-length (a .long)) (unequal (byteAt bytes 0) edition (a .edited)))
     (or-from _ _ (le-ltb most-elements (countIn bytes) (a .few))
     (or-from _ _ (unequal _ header-length (a .levels-at))
     (or-from _ _ (unequal _ (header-length + countIn bytes) (a .labels-at)) (unequal _ (rollLength (countIn bytes)) (a .whole)))))
-    ∙ passed _ (firstWhere (levelBreaks bytes) (countIn bytes)) _ (first-none (levelBreaks bytes) (countIn bytes) (a .levels-keep))
-    ∙ passed _ (firstWhere (labelBreaks bytes (countIn bytes)) (countIn bytes)) _ (first-none (labelBreaks bytes (countIn bytes)) (countIn bytes) (a .labels-keep))
-    ∙ cond-false _ (Some BadDepth) None (le-ltb (greatestDepth bytes (countIn bytes)) (depthIn bytes) (a .depth-keeps))
+    (first-none (levelBreaks bytes) (countIn bytes) (a .levels-keep))
+    (first-none (labelBreaks bytes (countIn bytes)) (countIn bytes) (a .labels-keep))
+    (a .depth-keeps)
 
--- The rule of a level v after a level u, as a test and as facts.
-abbrev breaks : ℕ → ℕ → ℕ → Bool
-breaks i v u = cond (eqb i 0) (not (eqb v 0)) (eqb v 0 || (ltb (u + 1) v || leb most-depth v))
+-- What each test says where it is false.
+first-keeps : (i u v : ℕ) → wrongLevel i u v ≡ false → i ≡ 0 → v ≡ 0
+first-keeps i u v k e = equal v 0 (sym (cond-true (eqb i 0) (not (eqb v 0)) _ (eq-eqb i 0 e)) ∙ k)
 
-first-keeps : (i v u : ℕ) → breaks i v u ≡ false → i ≡ 0 → v ≡ 0
-first-keeps i v u k e = equal v 0 (sym (cond-true (eqb i 0) (not (eqb v 0)) _ (eq-eqb i 0 e)) ∙ k)
-
-later-keeps : (i v u : ℕ) → breaks i v u ≡ false → 0 < i → (1 ≤ v) × (v ≤ u + 1) × (v < most-depth)
-later-keeps i v u k h =
+later-keeps : (i u v : ℕ) → wrongLevel i u v ≡ false → 0 < i → (1 ≤ v) × (v ≤ u + 1) × (v < most-depth)
+later-keeps i u v k h =
     let p = or-parts (eqb v 0) _ (sym (cond-false (eqb i 0) (not (eqb v 0)) _ (ne-eqb i 0 (λ e. omega arith))) ∙ k) in
     let q = or-parts (ltb (u + 1) v) _ (p .1) in
     let nz = eqb-false v 0 (p .0) in
     (omega arith, ltb-false (u + 1) v (q .0), leb-false most-depth v (q .1))
 
-label-keeps : (v : ℕ) → (eqb v 0 || ltb most-label v) ≡ false → (1 ≤ v) × (v ≤ most-label)
+label-keeps : (v : ℕ) → wrongLabel v ≡ false → (1 ≤ v) × (v ≤ most-label)
 label-keeps v k = let p = or-parts (eqb v 0) _ k in let nz = eqb-false v 0 (p .0) in (omega arith, ltb-false most-label v (p .1))
 
 depth-empty : (n d l : ℕ) → d ≤ cond (eqb n 0) 0 (l + 1) → n ≡ 0 → d ≡ 0
@@ -149,11 +139,11 @@ two-read bytes at n u e = ap (bigEndian 2) (sym e) ∙ number-read 2 (byteAt byt
 -- The rules of a lawful receipt, from the bytes.
 module _ (bytes : List ℕ) (a : Accepted bytes) where
   level-first : (i : ℕ) → i < countIn bytes → i ≡ 0 → byteAt bytes (levelPlace i) ≡ 0
-  level-first i h e = first-keeps i (byteAt bytes (levelPlace i)) (byteAt bytes (levelPlace (i - 1))) (a .levels-keep i h) e
+  level-first i h e = first-keeps i (byteAt bytes (levelPlace (i - 1))) (byteAt bytes (levelPlace i)) (a .levels-keep i h) e
 
   level-later : (i : ℕ) → i < countIn bytes → 0 < i
       → (1 ≤ byteAt bytes (levelPlace i)) × (byteAt bytes (levelPlace i) ≤ byteAt bytes (levelPlace (i - 1)) + 1) × (byteAt bytes (levelPlace i) < most-depth)
-  level-later i h k = later-keeps i (byteAt bytes (levelPlace i)) (byteAt bytes (levelPlace (i - 1))) (a .levels-keep i h) k
+  level-later i h k = later-keeps i (byteAt bytes (levelPlace (i - 1))) (byteAt bytes (levelPlace i)) (a .levels-keep i h) k
 
   level-shallow : (i : ℕ) → i < countIn bytes → byteAt bytes (levelPlace i) < most-depth
   level-shallow i h = ⊎-elim (λ (e : i ≡ 0). let z = level-first i h e in omega arith) (λ ne. level-later i h (omega arith) .2) (cases-eq i 0)

@@ -1,14 +1,14 @@
 -- First children and siblings by levels.
 use mathlib.Core.Path.{_≡_, refl, sym, ap, _∙_}
-use mathlib.Core.Bool.{Bool, true, false, _&&_}
+use mathlib.Core.Bool.{true, false}
 use mathlib.Core.Logic.{⊎-elim}
-use Prim.Native.Nat.{ℕ, zero, suc, _+_, _-_, _≤_, _<_}
+use Prim.Native.Nat.{ℕ, _+_, _-_, _≤_, _<_}
 use native.Mathlib.Omega.{arith}
 use lib.Dec.{ltb}
-use Rattle.std.proofs.shelf.Tests.{cases-lt, cases-eq, cases-bool, eq-eqb, lt-ltb, le-ltb, and-from, and-left, and-right}
+use Rattle.std.proofs.shelf.Tests.{cases-lt, cases-eq, cases-bool, lt-ltb, le-ltb, and-from, and-left, and-right}
 use Rattle.std.specs.declared.option.Option.{Option}
 use Rattle.std.specs.declared.option.Option.the-variants.{Some, None}
-use Rattle.model.specs.Receipt.{Receipt, Lawful, countOf, levelAt, nearest, parentOf, firstChildOf, nextSiblingOf, previousSiblingOf, firstWhere, lastWhere, sameRank}
+use Rattle.model.specs.Receipt.{Receipt, Lawful, countOf, levelAt, nearest, parentOf, firstChildOf, nextSiblingOf, previousSiblingOf, sameRank}
 use Rattle.model.proofs.Relatives.{inside, parent-some, parent-none, between, nearest-no-nearer, nearest-is}
 use Rattle.model.proofs.Search.{first-none, last-is, last-none, apart-rank, same-rank, same-parts}
 use Rattle.model.proofs.Firsts.{first-is}

@@ -1,7 +1,8 @@
 -- Reading bytes as a roll: the receipt that they tell, and the first reason to refuse them.
+use mathlib.Core.Path.{_≡_}
 use mathlib.Core.List.{List, [], _∷_, map}
-use mathlib.Core.Bool.{Bool, cond, not, _||_}
-use Prim.Native.Nat.{ℕ, _+_, _-_}
+use mathlib.Core.Bool.{Bool, true, false, cond, not, _||_}
+use Prim.Native.Nat.{ℕ, _+_, _-_, _<_}
 use lib.ListN.{length, getD}
 use lib.Dec.{eqb, ltb, leb}
 use Rattle.std.specs.Iters.{counting}
@@ -11,7 +12,7 @@ use Rattle.std.specs.declared.option.Option.the-variants.{Some, None}
 use Rattle.std.specs.declared.result.Result.{Result}
 use Rattle.std.specs.declared.result.Result.the-variants.{Ok, Err}
 use Rattle.model.specs.declared.fault.RollFault.{RollFault}
-use Rattle.model.specs.declared.fault.RollFault.the-variants.{NoRoll, BadLayout, BadLevel, BadLabel, BadDepth}
+use Rattle.model.specs.declared.fault.RollFault.the-variants.{NoRoll, BadLayout, BadLevel, BadLabel, BadDepth, ShortMemory}
 use Rattle.model.specs.Limits.{most-elements, most-label, most-depth}
 use Rattle.model.specs.Receipt.{Element, Receipt, firstWhere, empty}
 use Rattle.model.specs.Roll.{edition, header-length, rollLength}
@@ -50,11 +51,13 @@ elementsIn bytes n = map (elementIn bytes n) (counting 0 n)
 abbrev pub receiptIn : List ℕ → Receipt
 receiptIn bytes = record { elements = elementsIn bytes (countIn bytes); depth = depthIn bytes }
 
--- too short for a roll, or of another edition
+-- Each test below is true where its rule is broken.
+
+-- A roll has a whole header, and is of this edition.
 abbrev pub foreign : List ℕ → Bool
 foreign bytes = ltb (length bytes) header-length || not (eqb (byteAt bytes 0) edition)
 
--- The count is at most the greatest, the offsets are where levels and labels begin, and nothing is missing or left over.
+-- The count is not too great, the offsets are where levels and labels begin, and nothing is missing or left over.
 abbrev pub misplaced : List ℕ → Bool
 misplaced bytes =
     ltb most-elements (countIn bytes)
@@ -62,13 +65,18 @@ misplaced bytes =
     || (not (eqb (twoBytesAt bytes 6) (header-length + countIn bytes)) || not (eqb (length bytes) (rollLength (countIn bytes)))))
 
 -- The first level is 0; a later one is at least 1, at most one more than the level before, and below the greatest depth.
+abbrev pub wrongLevel : ℕ → ℕ → ℕ → Bool
+wrongLevel i before level = cond (eqb i 0) (not (eqb level 0)) (eqb level 0 || (ltb (before + 1) level || leb most-depth level))
+
 abbrev pub levelBreaks : List ℕ → ℕ → Bool
-levelBreaks bytes i = cond (eqb i 0) (not (eqb (byteAt bytes (levelPlace i)) 0))
-    (eqb (byteAt bytes (levelPlace i)) 0
-    || (ltb (byteAt bytes (levelPlace (i - 1)) + 1) (byteAt bytes (levelPlace i)) || leb most-depth (byteAt bytes (levelPlace i))))
+levelBreaks bytes i = wrongLevel i (byteAt bytes (levelPlace (i - 1))) (byteAt bytes (levelPlace i))
+
+-- A label is at least 1 and at most the greatest.
+abbrev pub wrongLabel : ℕ → Bool
+wrongLabel label = eqb label 0 || ltb most-label label
 
 abbrev pub labelBreaks : List ℕ → ℕ → ℕ → Bool
-labelBreaks bytes n i = eqb (byteAt bytes (labelPlace n i)) 0 || ltb most-label (byteAt bytes (labelPlace n i))
+labelBreaks bytes n i = wrongLabel (byteAt bytes (labelPlace n i))
 
 -- The depth is 0 where there are no elements, and else at most one more than the last level.
 abbrev pub greatestDepth : List ℕ → ℕ → ℕ
@@ -87,6 +95,23 @@ readingFault bytes =
     (faultAt (λ i. BadLevel (levelPlace i)) (firstWhere (levelBreaks bytes) (countIn bytes))
     (faultAt (λ i. BadLabel (labelPlace (countIn bytes) i)) (firstWhere (labelBreaks bytes (countIn bytes)) (countIn bytes))
     (cond (ltb (greatestDepth bytes (countIn bytes)) (depthIn bytes)) (Some BadDepth) None))))
+
+-- the byte at a place breaks its rule, and no byte of its kind before it does
+pub record FirstBreak (breaks : ℕ → Bool) (placeOf : ℕ → ℕ) (n at : ℕ) : Type 0 where
+  pub rank : ℕ
+  pub place : at ≡ placeOf rank
+  pub within : rank < n
+  pub broken : breaks rank ≡ true
+  pub before : (j : ℕ) → j < rank → breaks j ≡ false
+
+-- what each fault says of the bytes
+abbrev pub Applies : List ℕ → RollFault → Type 0
+Applies bytes NoRoll = foreign bytes ≡ true
+Applies bytes BadLayout = misplaced bytes ≡ true
+Applies bytes (BadLevel at) = FirstBreak (levelBreaks bytes) levelPlace (countIn bytes) at
+Applies bytes (BadLabel at) = FirstBreak (labelBreaks bytes (countIn bytes)) (labelPlace (countIn bytes)) (countIn bytes) at
+Applies bytes BadDepth = greatestDepth bytes (countIn bytes) < depthIn bytes
+Applies bytes ShortMemory = ⊥
 
 -- the outcome of a check
 abbrev pub outcome : Option RollFault → Result (Unit {0}) RollFault

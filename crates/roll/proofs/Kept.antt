@@ -1,13 +1,12 @@
 -- What the store over accepted bytes keeps, and what its reading says.
 use mathlib.Core.Path.{_≡_, refl, sym, ap, subst, _∙_}
 use mathlib.Core.List.{List}
-use Prim.Native.Nat.{ℕ, _+_, _-_, _≤_, _<_}
+use Prim.Native.Nat.{ℕ, _≤_, _<_}
 use native.Mathlib.Omega.{arith}
 use lib.ListN.{length}
 use Rattle.std.specs.declared.option.Option.{Option}
 use Rattle.std.specs.declared.option.Option.the-variants.{Some, None}
 use Rattle.std.specs.declared.result.Result.the-variants.{Ok, Err}
-use Rattle.std.specs.shelf.Digits.{Under}
 use Rattle.model.specs.declared.fault.RollFault.{RollFault}
 use Rattle.model.specs.Receipt.{Receipt, Lawful, countOf}
 use Rattle.model.specs.Roll.{rollOf}

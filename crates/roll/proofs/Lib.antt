@@ -1,4 +1,3 @@
 pub mod Copy
-pub mod Checked
 pub mod Kept
 pub mod Back

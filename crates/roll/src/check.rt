@@ -3,8 +3,9 @@ ghost use mathlib.Core.Path.{_≡_};
 ghost use Prim.Native.Nat.{_+_, _<_, _≤_};
 ghost use lib.ListN.{length};
 ghost use Rattle.std.specs.Options.{Cases};
+ghost use Rattle.std.specs.Results.{Cases as ByOutcome};
 ghost use Rattle.model.specs.Receipt.{firstWhere};
-ghost use Rattle.model.specs.Reading.{countIn, foreign, greatestDepth, labelBreaks, labelPlace, levelBreaks, levelPlace, misplaced, outcome, readingFault, twoBytesAt};
+ghost use Rattle.model.specs.Reading.{Applies, countIn, foreign, greatestDepth, labelBreaks, labelPlace, levelBreaks, levelPlace, misplaced, outcome, readingFault, twoBytesAt};
 use crate::layout::EDITION;
 use crate::layout::HEADER_LENGTH;
 use model::fault::RollFault;
@@ -101,7 +102,8 @@ fn greatest_depth(bytes: &[u8], count: usize) -> usize
 
 // Whether the bytes are a roll, and if not, the first reason.
 pub fn check_roll(bytes: &[u8]) -> Result<(), RollFault>
-    ensures { λ r. ⌜ r ≡ outcome (readingFault (now (bytes .entry))) ⌝ }
+    ensures answers { λ r. ⌜ r ≡ outcome (readingFault (now (bytes .entry))) ⌝ }
+    ensures named { λ r. ⌜ ByOutcome r (λ _. Unit {0}) (λ fault. Applies (now (bytes .entry)) fault) ⌝ }
 {
     if is_foreign(bytes) {
         return Err(RollFault::NoRoll);
