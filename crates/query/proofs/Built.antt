@@ -18,12 +18,12 @@ use Rattle.model.specs.Verdict as v
 use Rattle.model.specs.Grammar.{TestTree, star, PathTree, StepTree, OrChain, AndChain, Atom, one, slash, bare, held, ands, or, and, along, parens, negate, path-text, or-text, and-text, atom-text, test-meaning, path-meaning, step-meaning, or-meaning, and-meaning, atom-meaning}
 use Rattle.model.specs.Grammar as g
 use Rattle.names.specs.Sheet.{labelIn}
-use Rattle.query.specs.declared.draft.Draft.{Draft}
-use Rattle.query.specs.declared.table.Part.{Part}
-use Rattle.query.specs.declared.table.Tag.{Tag}
-use Rattle.query.specs.declared.table.Tag.the-variants.{Any, Named, Along, And, Or, Not}
-use Rattle.query.specs.Table.{formulaAt, tagged, formulaOf, formulasAfter, formulas}
-use Rattle.query.specs.Drafts.{part, added, counted, noted, root, joinedTo, reached, labelled, test-drafted, step-axis, step-drafted, path-drafted, or-drafted, and-drafted, atom-drafted, linked, spine-drafted}
+use Rattle.reader.specs.declared.draft.Draft.{Draft}
+use Rattle.reader.specs.declared.table.Part.{Part}
+use Rattle.reader.specs.declared.table.Tag.{Tag}
+use Rattle.reader.specs.declared.table.Tag.the-variants.{Any, Named, Along, And, Or, Not}
+use Rattle.reader.specs.Table.{formulaAt, tagged, formulaOf, formulasAfter, formulas}
+use Rattle.reader.specs.Drafts.{part, added, counted, noted, root, joinedTo, reached, labelled, test-drafted, step-axis, step-drafted, path-drafted, or-drafted, and-drafted, atom-drafted, linked, spine-drafted}
 use Rattle.query.specs.Answers.{orZero}
 
 -- one part more

@@ -1,5 +1,3 @@
-pub mod Moves
-pub mod Compose
 pub mod Built
 pub mod Noted
 pub mod Depth

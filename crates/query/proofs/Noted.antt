@@ -17,10 +17,10 @@ use Rattle.model.specs.Query.{path-length, step-length, filter-length}
 use Rattle.model.specs.Grammar.{TestTree, star, PathTree, StepTree, OrChain, AndChain, Atom, one, slash, bare, held, ands, or, and, along, parens, negate, path-text, or-text, and-text, atom-text, path-meaning, step-meaning, or-meaning, and-meaning, atom-meaning}
 use Rattle.model.specs.Grammar as g
 use Rattle.names.specs.Sheet.{labelIn}
-use Rattle.query.specs.declared.draft.Draft.{Draft}
-use Rattle.query.specs.declared.table.Part.{Part}
-use Rattle.query.specs.declared.table.Tag.the-variants.{Any, Named}
-use Rattle.query.specs.Drafts.{part, added, counted, firstOf, labelled, test-drafted, step-axis, step-drafted, path-drafted, or-drafted, and-drafted, atom-drafted, linked, spine-drafted}
+use Rattle.reader.specs.declared.draft.Draft.{Draft}
+use Rattle.reader.specs.declared.table.Part.{Part}
+use Rattle.reader.specs.declared.table.Tag.the-variants.{Any, Named}
+use Rattle.reader.specs.Drafts.{part, added, counted, firstOf, labelled, test-drafted, step-axis, step-drafted, path-drafted, or-drafted, and-drafted, atom-drafted, linked, spine-drafted}
 use Rattle.query.specs.Answers.{test-names, path-names, step-names, or-names, and-names, atom-names, firstUnknown}
 use Rattle.query.proofs.Built.{label}
 

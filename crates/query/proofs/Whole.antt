@@ -15,17 +15,17 @@ use Rattle.grammar.specs.Machines.{dead, go, stops}
 use Rattle.grammar.specs.Machine.{axis, done, begin, run}
 use Rattle.grammar.proofs.Forward.{go-on}
 use Rattle.grammar.proofs.Places.{breaks}
-use Rattle.query.specs.declared.draft.Draft.{Draft}
-use Rattle.query.specs.declared.table.Part.{Part}
+use Rattle.reader.specs.declared.draft.Draft.{Draft}
+use Rattle.reader.specs.declared.table.Part.{Part}
 use Rattle.query.specs.declared.QueryFault.{QueryFault}
 use Rattle.query.specs.declared.QueryFault.the-variants.{BadSize, Broken, TooDeep, TooLong, UnknownName, ShortTable}
-use Rattle.query.specs.Spells.{Stops}
-use Rattle.query.specs.Drafts.{started, spine-drafted}
-use Rattle.query.specs.Table.{reading, formulaAt, formulas}
+use Rattle.reader.specs.Spells.{Stops}
+use Rattle.reader.specs.Drafts.{started, spine-drafted}
+use Rattle.reader.specs.Table.{reading, formulaAt, formulas}
 use Rattle.query.specs.Answers.{Sized, Accepted, Refused, unknownLeft, meaning, lengthOf, places}
 use Rattle.query.specs.Limits.{Tree, Limited, Copied}
-use Rattle.query.proofs.Moves.{Not as IsNot}
-use Rattle.query.proofs.Compose.{ParsedSpine}
+use Rattle.reader.proofs.Moves.{Not as IsNot}
+use Rattle.reader.proofs.Compose.{ParsedSpine}
 use Rattle.query.proofs.Built.{Ready, Built, spine-built}
 use Rattle.query.proofs.Noted.{spine-noted}
 

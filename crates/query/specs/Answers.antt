@@ -18,8 +18,8 @@ use Rattle.names.specs.Sheet.{labelIn}
 use Rattle.query.specs.declared.QueryFault.{QueryFault}
 use Rattle.query.specs.declared.QueryFault.the-variants.{BadSize, Broken, TooDeep, TooLong, UnknownName, ShortTable}
 use Rattle.query.specs.declared.QuerySize.{QuerySize}
-use Rattle.query.specs.declared.table.Part.{Part}
-use Rattle.query.specs.Table.{reading}
+use Rattle.reader.specs.declared.table.Part.{Part}
+use Rattle.reader.specs.Table.{reading}
 
 abbrev pub most-text : ℕ
 most-text = 512

@@ -8,9 +8,9 @@ use Rattle.std.specs.declared.option.Option.the-variants.{Some, None}
 use Rattle.model.specs.Grammar.{PathTree, Reads, Breaks}
 use Rattle.query.specs.declared.QueryFault.{QueryFault}
 use Rattle.query.specs.declared.QueryFault.the-variants.{BadSize, Broken, TooDeep, TooLong, UnknownName, ShortTable}
-use Rattle.query.specs.declared.draft.Draft.{Draft}
-use Rattle.query.specs.declared.table.Part.{Part}
-use Rattle.query.specs.Drafts.{spine-drafted}
+use Rattle.reader.specs.declared.draft.Draft.{Draft}
+use Rattle.reader.specs.declared.table.Part.{Part}
+use Rattle.reader.specs.Drafts.{spine-drafted}
 use Rattle.query.specs.Answers.{deepPlace}
 
 pub record Tree (t sheet : List ℕ) (old new : Draft) : Type 0 where

@@ -6,20 +6,14 @@ ghost use lib.ListN.{length};
 ghost use Rattle.query.specs.Limits.{Drafted, Limited, Copied};
 ghost use Rattle.query.specs.Refusals.{queryRefusal};
 ghost use Rattle.query.specs.Theorems.{Fitting-is-accepted, One-fault};
-
-mod axes;
-mod draft;
-mod reader;
-pub mod table;
-
-use crate::draft::Draft;
-use crate::draft::MOST_LENGTH;
-use crate::draft::start;
-use crate::reader::spine;
-use crate::table::Part;
 use model::fault::Fault;
 use model::fault::Layer;
 use model::fault::Refusal;
+use reader::descent::spine;
+use reader::draft::Draft;
+use reader::draft::MOST_LENGTH;
+use reader::draft::start;
+use reader::table::Part;
 
 // The most bytes of a query text.
 pub const MOST_TEXT: usize = 512;

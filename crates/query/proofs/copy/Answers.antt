@@ -4,9 +4,9 @@ use Prim.Native.Nat.{_<_}
 use native.Mathlib.Omega.{arith}
 use lib.ListN.{length, getD}
 use Rattle.std.proofs.shelf.Lists.{take-more, take-more-set, drop-set-lt}
-use Rattle.query.specs.declared.table.Part.{Part}
-use Rattle.query.specs.declared.table.Tag.the-variants.{First}
-use Rattle.query.specs.Drafts.{part}
+use Rattle.reader.specs.declared.table.Part.{Part}
+use Rattle.reader.specs.declared.table.Tag.the-variants.{First}
+use Rattle.reader.specs.Drafts.{part}
 use Rattle.query.proofs.copy.Needs as need
 
 pub loop-i-again : need.loop-i-again

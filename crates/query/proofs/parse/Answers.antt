@@ -1,5 +1,5 @@
 use borrow.Author.Needs.{needs}
-use Rattle.query.proofs.Moves.{front}
+use Rattle.reader.proofs.Moves.{front}
 use Rattle.query.proofs.Whole.{parsed-whole, parsed-part, parsed-stuck, parsed-none}
 use Rattle.query.proofs.parse.Needs as need
 

@@ -1,5 +1,0 @@
-use lib.ListN.{length}
-use Rattle.query.proofs.reader.+name_rest.Given as given
-
-abbrev pub μ-name-rest : given.MeasureT-name-rest
-μ-name-rest l = length (l .text .now)
