@@ -1,5 +1,6 @@
 pub mod Moves
 pub mod Compose
+pub mod Pieces
 pub mod Built
 pub mod Noted
 pub mod Depth

@@ -1,11 +1,9 @@
 // A draft of a table: the parts are written here while a text is read, and reach the caller's table only once nothing is refused.
 ghost use mathlib.Core.Path.{_≡_};
 ghost use Prim.Native.Nat.{_-_};
-ghost use Rattle.model.specs.Axes.{inverse};
 ghost use Rattle.query.specs.Drafts.{added, counted, noted, joinedTo, reached, closed, started};
 use crate::table::Part;
 use crate::table::Tag;
-use model::axis::Axis;
 
 // The greatest length of a query.
 pub const MOST_LENGTH: usize = 16;
@@ -105,24 +103,5 @@ pub fn close(draft: &mut Draft, waiting: Option<usize>)
     match waiting {
         Some(left) => join(draft, Tag::Or, left),
         None => {}
-    }
-}
-
-// The axis that leads back.
-pub fn back(axis: Axis) -> Axis
-    ensures { λ r. ⌜ r ≡ inverse axis ⌝ }
-{
-    match axis {
-        Axis::Itself => Axis::Itself,
-        Axis::Child => Axis::Parent,
-        Axis::Parent => Axis::Child,
-        Axis::Descendant => Axis::Ancestor,
-        Axis::Ancestor => Axis::Descendant,
-        Axis::DescendantOrSelf => Axis::AncestorOrSelf,
-        Axis::AncestorOrSelf => Axis::DescendantOrSelf,
-        Axis::FollowingSibling => Axis::PrecedingSibling,
-        Axis::PrecedingSibling => Axis::FollowingSibling,
-        Axis::Following => Axis::Preceding,
-        Axis::Preceding => Axis::Following,
     }
 }
