@@ -1,3 +1,4 @@
+pub mod Pieces
 pub mod Built
 pub mod Noted
 pub mod Depth

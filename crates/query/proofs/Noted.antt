@@ -20,7 +20,7 @@ use Rattle.names.specs.Sheet.{labelIn}
 use Rattle.reader.specs.declared.draft.Draft.{Draft}
 use Rattle.reader.specs.declared.table.Part.{Part}
 use Rattle.reader.specs.declared.table.Tag.the-variants.{Any, Named}
-use Rattle.reader.specs.Drafts.{part, added, counted, firstOf, labelled, test-drafted, step-axis, step-drafted, path-drafted, or-drafted, and-drafted, atom-drafted, linked, spine-drafted}
+use Rattle.reader.specs.Drafts.{part, added, counted, firstOf, noted, root, joinedTo, reached, labelled, joining, test-drafted, step-axis, step-drafted, path-drafted, or-drafted, and-drafted, atom-drafted, linked, spine-drafted}
 use Rattle.query.specs.Answers.{test-names, path-names, step-names, or-names, and-names, atom-names, firstUnknown}
 use Rattle.query.proofs.Built.{label}
 
@@ -154,8 +154,8 @@ module _ (sheet : List ℕ) where
     atom-noted (negate f) rest d = noted-add _ d _ _ _ (noted-then d (counted d) (or-drafted sheet f (41 ∷ rest) (counted d)) 1 (filter-length (or-meaning word f)) [] (or-names f (41 ∷ rest)) (noted-count d) (or-noted f (41 ∷ rest) (counted d)))
 
   pub spine-noted : (p : PathTree) (rest : List ℕ) (d : Draft) → Noted d (spine-drafted sheet p rest d) (path-length (path-meaning word p)) (path-names p rest)
-  spine-noted (one s) rest d = noted-add _ d _ _ _ (noted-add _ d _ _ _ (step-noted s rest d))
+  spine-noted (one s) rest d = noted-add _ d _ _ _ (step-noted s rest d)
   spine-noted (slash s p) rest d =
       let rest′ = 47 ∷ (path-text p ++ rest) in
       let e = linked (step-axis s) d (step-drafted sheet s rest′ d) in
-      noted-then d e (spine-drafted sheet p rest e) (step-length (step-meaning word s)) (path-length (path-meaning word p)) (step-names s rest′) (path-names p rest) (noted-add _ d _ _ _ (noted-add _ d _ _ _ (step-noted s rest′ d))) (spine-noted p rest e)
+      noted-then d e (spine-drafted sheet p rest e) (step-length (step-meaning word s)) (path-length (path-meaning word p)) (step-names s rest′) (path-names p rest) (noted-add _ d _ _ _ (step-noted s rest′ d)) (spine-noted p rest e)

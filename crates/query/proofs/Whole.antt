@@ -9,8 +9,8 @@ use lib.ListN.{length, take}
 use Rattle.std.proofs.shelf.Lists.{nil-from-length, length-take-le}
 use Rattle.std.proofs.shelf.Tests.{cases-lt, ne-eqb}
 use Rattle.std.specs.declared.option.Option.the-variants.{Some, None}
-use Rattle.model.specs.Verdict.{first, query-formula}
-use Rattle.model.specs.Grammar.{PathTree, path-text, Breaks}
+use Rattle.model.specs.Query.{path-length}
+use Rattle.model.specs.Grammar.{PathTree, path-text, Reads, Query, Breaks}
 use Rattle.grammar.specs.Machines.{dead, go, stops}
 use Rattle.grammar.specs.Machine.{axis, done, begin, run}
 use Rattle.grammar.proofs.Forward.{go-on}
@@ -21,13 +21,13 @@ use Rattle.query.specs.declared.QueryFault.{QueryFault}
 use Rattle.query.specs.declared.QueryFault.the-variants.{BadSize, Broken, TooDeep, TooLong, UnknownName, ShortTable}
 use Rattle.reader.specs.Spells.{Stops}
 use Rattle.reader.specs.Drafts.{started, spine-drafted}
-use Rattle.reader.specs.Table.{reading, formulaAt, formulas}
-use Rattle.query.specs.Answers.{Sized, Accepted, Refused, unknownLeft, meaning, lengthOf, places}
+use Rattle.reader.specs.Table.{query, queryOf, reading, pieceAt, pieces}
+use Rattle.query.specs.Answers.{Sized, Sound, Accepted, Refused, deepPlace, unknownLeft, meaning, lengthOf, places}
 use Rattle.query.specs.Limits.{Tree, Limited, Copied}
 use Rattle.reader.proofs.Moves.{Not as IsNot}
 use Rattle.reader.proofs.Compose.{ParsedSpine}
-use Rattle.query.proofs.Built.{Ready, Built, spine-built}
-use Rattle.query.proofs.Noted.{spine-noted}
+use Rattle.query.proofs.Built.{Ready, Built, query-built}
+use Rattle.query.proofs.Noted.{Noted, spine-noted}
 
 -- The grammar's side.
 past-end : (t : List ℕ) → (length t ≡ 0 → ⊥) → run (done []) t ≡ stops (length t)
@@ -64,7 +64,7 @@ pub record Facts (sheet : List ℕ) (tree : PathTree) (d : Draft) : Type 0 where
   pub exact : lengthOf sheet tree ≤ 16 → d .count ≡ lengthOf sheet tree
   pub over : 16 < lengthOf sheet tree → 16 < d .count
   pub unknown : d .unknown ≡ unknownLeft sheet tree
-  pub built : lengthOf sheet tree ≤ 16 → Built started d (query-formula (meaning sheet tree)) (4 * lengthOf sheet tree)
+  pub built : lengthOf sheet tree ≤ 16 → Built started d (query (meaning sheet tree)) (4 * lengthOf sheet tree)
 
 facts-of : (sheet : List ℕ) (tree : PathTree) → Facts sheet tree (spine-drafted sheet tree [] started)
 facts-of sheet tree =
@@ -73,7 +73,7 @@ facts-of sheet tree =
       exact = λ h. n .exact (omega arith) ∙ omega arith;
       over = λ h. n .over (omega arith);
       unknown = n .first;
-      built = λ h. spine-built sheet tree [] started first started-ready (omega arith) refl (omega arith);
+      built = λ h. query-built sheet tree [] started started-ready (omega arith) refl (omega arith);
     }
 
 pub facts : (t sheet : List ℕ) (d : Draft) (k : Tree t sheet started d) → Facts sheet (k .tree) d
@@ -122,7 +122,7 @@ accepted t sheet old new d s k l c =
       known = sym (f .unknown) ∙ l .2;
       room = l .3;
       few = omega (arith, b .most);
-      holds = ap reading (c .front) ∙ ap (λ (i : ℕ). formulaAt (formulas (take (d .used) (d .parts))) (i - 1)) w ∙ b .last;
+      holds = ap reading (c .front) ∙ ap (λ (i : ℕ). queryOf (pieceAt (pieces (take (d .used) (d .parts))) (i - 1))) w ∙ ap queryOf (b .last);
       kept = c .kept;
     }
 

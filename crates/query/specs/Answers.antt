@@ -12,7 +12,6 @@ use Rattle.std.specs.declared.option.Option.the-variants.{Some, None}
 use Rattle.std.specs.declared.result.Result.{Result}
 use Rattle.std.specs.declared.result.Result.the-variants.{Ok, Err}
 use Rattle.model.specs.Query.{Path, path-length}
-use Rattle.model.specs.Verdict.{query-formula}
 use Rattle.model.specs.Grammar.{TestTree, star, name, PathTree, StepTree, OrChain, AndChain, Atom, one, slash, bare, held, ands, or, atom, and, along, parens, negate, path-text, or-text, and-text, atom-text, Reads, Query, Breaks, path-meaning}
 use Rattle.names.specs.Sheet.{labelIn}
 use Rattle.query.specs.declared.QueryFault.{QueryFault}
@@ -114,7 +113,7 @@ pub record Accepted (t sheet : List ℕ) (old new : List Part) (size : QuerySize
   pub known : unknownLeft sheet tree ≡ None
   pub room : places (size .steps) ≤ length old
   pub few : size .places ≤ places (size .steps)
-  pub holds : reading (take (size .places) new) ≡ query-formula (meaning sheet tree)
+  pub holds : reading (take (size .places) new) ≡ meaning sheet tree
   pub kept : drop (size .places) new ≡ drop (size .places) old
 
 -- The faults in their order; each presupposes that none before it applies.

@@ -16,8 +16,7 @@ use Rattle.std.specs.declared.result.Result.{Result}
 use Rattle.std.specs.declared.result.Result.the-variants.{Ok, Err}
 use Rattle.model.specs.Names.{isLetter, isNameByte, areNameBytes}
 use Rattle.model.specs.declared.axis.Axis.{Axis}
-use Rattle.model.specs.Axes.{inverse}
-use Rattle.model.specs.Grammar.{star, test-text, PathTree, OrChain, AndChain, Atom, one, slash, bare, ands, or, and, along, parens, negate, axis-text, path-text, step-text, or-text, and-text, atom-text}
+use Rattle.model.specs.Grammar.{TestTree, star, test-text, PathTree, StepTree, OrChain, AndChain, Atom, one, slash, bare, ands, or, and, along, parens, negate, axis-text, path-text, step-text, or-text, and-text, atom-text}
 use Rattle.model.specs.Grammar as g
 use Rattle.grammar.specs.Machines.{dead, go, stops}
 use Rattle.grammar.specs.Machine.{Frame, bracket, paren, State, lits, axis, test, name, held, step, done, joint, atom, shut, onShut, onDone, onStep, onHeld, onName, onAxis, on, run}
@@ -27,10 +26,10 @@ use Rattle.grammar.proofs.Chains.{mk-ors, ors-is}
 use Rattle.names.specs.Sheet.{labelIn}
 use Rattle.reader.specs.declared.draft.Stuck.{Stuck}
 use Rattle.reader.specs.declared.draft.Draft.{Draft}
-use Rattle.reader.specs.declared.table.Tag.the-variants.{Any, Along, And, Not}
+use Rattle.reader.specs.declared.table.Tag.the-variants.{Any, Filtered, Then, Along, And, Not, Step}
 use Rattle.reader.specs.Spells.{Takes, Stops}
-use Rattle.reader.specs.Drafts.{part, added, counted, root, joinedTo, reached, closed, labelled, joining, test-drafted, step-axis, step-drafted, path-drafted, or-drafted, and-drafted, atom-drafted, linked, spine-drafted, joins-drafted}
-use Rattle.reader.specs.Parsed.{Parsed, inside, NameRead, PathRead, SpineRead, FilterRead, AtomRead, JoinsRead, Shut}
+use Rattle.reader.specs.Drafts.{part, added, counted, noted, root, joinedTo, reached, closed, labelled, joining, test-drafted, step-axis, step-drafted, path-drafted, or-drafted, and-drafted, atom-drafted, linked, spine-drafted, joins-drafted}
+use Rattle.reader.specs.Parsed.{Parsed, Read, inside, NameRead, TestRead, StepRead, PathRead, SpineRead, FilterRead, AtomRead, JoinsRead, WordRead, Shut}
 use Rattle.reader.proofs.Moves.{Not as IsNot}
 
 -- a reading that stops after a part that leads to another state
@@ -183,13 +182,13 @@ module _ (sheet : List ℕ) (a : Axis) (text more rest : List ℕ) (old d1 : Dra
       rw q
       (record { fits = omega (arith, t .falls, x .takes .falls, f .takes .falls, ap length h); halts = λ fs. to-filter inner h fs ∙ f .takes .goes (bracket, fs) ∙ open-bracket fs after n })
 
-  pub step-held : (inner after end : List ℕ) (d2 d3 : Draft) → rest ≡ 91 ∷ inner → ParsedFilter sheet inner after d1 d2 → after ≡ 93 ∷ end → d3 ≡ joinedTo And (root d1) d2 → (p : ParsedStep sheet text end old d3) × (a ≡ step-axis (p .tree))
+  pub step-held : (inner after end : List ℕ) (d2 d3 : Draft) → rest ≡ 91 ∷ inner → ParsedFilter sheet inner after d1 d2 → after ≡ 93 ∷ end → d3 ≡ joinedTo Filtered (root d1) d2 → (p : ParsedStep sheet text end old d3) × (a ≡ step-axis (p .tree))
   step-held inner after end d2 d3 h f k m =
       let r : rest ≡ 91 ∷ (or-text (f .tree) ++ (93 ∷ end)) = h ∙ ap (λ (y : List ℕ). 91 ∷ y) (f .reads ∙ ap (λ (y : List ℕ). or-text (f .tree) ++ y) k) in (
         record {
           tree = g.held a (x .tree) (f .tree);
           reads = e ∙ ap (λ (y : List ℕ). axis-text a ++ y) (x .reads ∙ ap (λ (y : List ℕ). test-text (x .tree) ++ y) r) ∙ sym (held-assoc (axis-text a) (test-text (x .tree)) (or-text (f .tree)) end);
-          made = m ∙ ap (joinedTo And (root d1)) (f .made ∙ ap (λ (y : List ℕ). or-drafted sheet (f .tree) y d1) k) ∙ ap (joining And (or-drafted sheet (f .tree) (93 ∷ end))) (x .made ∙ ap (λ (y : List ℕ). test-drafted sheet (x .tree) y (counted old)) r);
+          made = m ∙ ap (joinedTo Filtered (root d1)) (f .made ∙ ap (λ (y : List ℕ). or-drafted sheet (f .tree) y d1) k) ∙ ap (joining Filtered (or-drafted sheet (f .tree) (93 ∷ end))) (x .made ∙ ap (λ (y : List ℕ). test-drafted sheet (x .tree) y (counted old)) r);
           takes = record { falls = omega (arith, t .falls, x .takes .falls, f .takes .falls, ap length h, ap length k); goes = λ fs. to-filter inner h fs ∙ f .takes .goes (bracket, fs) ∙ ap (run (shut (bracket ∷ fs))) k };
         },
         refl,
@@ -219,12 +218,12 @@ module _ (sheet : List ℕ) (a : Axis) (text rest : List ℕ) (old d1 : Draft) (
   step-made : (p : PathTree) (more end : List ℕ) → rest ≡ 47 ∷ more → more ≡ path-text p ++ end → d1 ≡ step-drafted sheet (s .tree) (47 ∷ (path-text p ++ end)) old
   step-made p more end h k = s .made ∙ ap (λ (y : List ℕ). step-drafted sheet (s .tree) y old) (h ∙ ap (λ (y : List ℕ). 47 ∷ y) k)
 
-  pub path-slash : (more end : List ℕ) (d2 d3 d4 : Draft) → rest ≡ 47 ∷ more → ParsedPath sheet more end d1 d2 → d3 ≡ joinedTo And (root d1) d2 → d4 ≡ reached (Along a) d3 → ParsedPath sheet text end old d4
+  pub path-slash : (more end : List ℕ) (d2 d3 d4 : Draft) → rest ≡ 47 ∷ more → ParsedPath sheet more end d1 d2 → d3 ≡ joinedTo Then (root d1) d2 → d4 ≡ reached (Along a) d3 → ParsedPath sheet text end old d4
   path-slash more end d2 d3 d4 h p m n =
       record {
         tree = slash (s .tree) (p .tree);
         reads = both-read (p .tree) more end h (p .reads);
-        made = n ∙ ap (λ (b : Axis). reached (Along b) d3) q ∙ ap (reached (Along (step-axis (s .tree)))) (m ∙ ap (joinedTo And (root d1)) (p .made) ∙ ap (joining And (path-drafted sheet (p .tree) end)) (step-made (p .tree) more end h (p .reads)));
+        made = n ∙ ap (λ (b : Axis). reached (Along b) d3) q ∙ ap (reached (Along (step-axis (s .tree)))) (m ∙ ap (joinedTo Then (root d1)) (p .made) ∙ ap (joining Then (path-drafted sheet (p .tree) end)) (step-made (p .tree) more end h (p .reads)));
         takes = record { falls = omega (arith, s .takes .falls, p .takes .falls, ap length h); goes = λ fs. to-path more h fs ∙ p .takes .goes fs };
       }
 
@@ -377,6 +376,5 @@ joins-or sheet waiting text more next rest old d0 d1 d2 left (Err x) e h t m q a
 pub from-draft : {X Y : Type 0} {write : X → List ℕ} {drafted : X → List ℕ → Draft → Draft} {from to : Y → State} {text rest : List ℕ} {d e new : Draft} → d ≡ e → Parsed write drafted from to text rest d new → Parsed write drafted from to text rest e new
 from-draft {drafted = drafted} {rest = rest} q p = record { tree = p .tree; reads = p .reads; made = p .made ∙ ap (drafted (p .tree) rest) q; takes = p .takes }
 
-pub linked-made : (a b : Axis) (old d1 d2 d3 : Draft) (before here : ℕ) → b ≡ inverse a → before ≡ root old → here ≡ root d1 → d2 ≡ added (part (Along b) before 0) d1 → d3 ≡ joinedTo And here d2 → d3 ≡ linked a old d1
-linked-made a b old d1 d2 d3 before here q p h n m =
-    m ∙ ap (λ (l : ℕ). joinedTo And l d2) h ∙ ap (joinedTo And (root d1)) (n ∙ ap (λ (x : Axis). added (part (Along x) before 0) d1) q ∙ ap (λ (l : ℕ). added (part (Along (inverse a)) l 0) d1) p)
+pub linked-made : (a : Axis) (old d1 d2 : Draft) (before here : ℕ) → before ≡ root old → here ≡ root d1 → d2 ≡ added (part (Step a) here before) d1 → d2 ≡ linked a old d1
+linked-made a old d1 d2 before here p h m = m ∙ ap (λ (l : ℕ). added (part (Step a) l before) d1) h ∙ ap (λ (l : ℕ). added (part (Step a) (root d1) l) d1) p

@@ -8,14 +8,13 @@ use lib.ListN.{length, set, replicate}
 use Rattle.std.specs.declared.option.Option.{Option}
 use Rattle.std.specs.declared.option.Option.the-variants.{Some, None}
 use Rattle.model.specs.declared.axis.Axis.{Axis}
-use Rattle.model.specs.Axes.{inverse}
 use Rattle.model.specs.Grammar.{TestTree, star, name, PathTree, StepTree, OrChain, AndChain, Atom, one, slash, bare, held, ands, or, atom, and, along, parens, negate, path-text, or-text, and-text, atom-text}
 use Rattle.grammar.specs.Joins.{by-and, by-or, Joins, no-join, joined, joins-text}
 use Rattle.names.specs.Sheet.{labelIn}
 use Rattle.reader.specs.declared.draft.Draft.{Draft}
 use Rattle.reader.specs.declared.table.Part.{Part}
 use Rattle.reader.specs.declared.table.Tag.{Tag}
-use Rattle.reader.specs.declared.table.Tag.the-variants.{First, Any, Named, Along, And, Or, Not}
+use Rattle.reader.specs.declared.table.Tag.the-variants.{First, Any, Named, Filtered, Then, Along, And, Or, Not, Step}
 
 abbrev pub part : Tag → ℕ → ℕ → Part
 part tag i j = record { tag = tag; first = i; second = j }
@@ -73,11 +72,11 @@ joining tag further d = joinedTo tag (root d) (further d)
 abbrev mutual
   pub step-drafted : List ℕ → StepTree → List ℕ → Draft → Draft
   step-drafted sheet (bare a x) rest d = test-drafted sheet x rest (counted d)
-  step-drafted sheet (held a x f) rest d = joining And (or-drafted sheet f (93 ∷ rest)) (test-drafted sheet x (91 ∷ (or-text f ++ (93 ∷ rest))) (counted d))
+  step-drafted sheet (held a x f) rest d = joining Filtered (or-drafted sheet f (93 ∷ rest)) (test-drafted sheet x (91 ∷ (or-text f ++ (93 ∷ rest))) (counted d))
 
   pub path-drafted : List ℕ → PathTree → List ℕ → Draft → Draft
   path-drafted sheet (one s) rest d = reached (Along (step-axis s)) (step-drafted sheet s rest d)
-  path-drafted sheet (slash s p) rest d = reached (Along (step-axis s)) (joining And (path-drafted sheet p rest) (step-drafted sheet s (47 ∷ (path-text p ++ rest)) d))
+  path-drafted sheet (slash s p) rest d = reached (Along (step-axis s)) (joining Then (path-drafted sheet p rest) (step-drafted sheet s (47 ∷ (path-text p ++ rest)) d))
 
   pub or-drafted : List ℕ → OrChain → List ℕ → Draft → Draft
   or-drafted sheet (ands x) rest d = and-drafted sheet x rest d
@@ -92,9 +91,9 @@ abbrev mutual
   atom-drafted sheet (parens f) rest d = or-drafted sheet f (41 ∷ rest) d
   atom-drafted sheet (negate f) rest d = reached Not (or-drafted sheet f (41 ∷ rest) (counted d))
 
--- The query's own path is read from its end: each step is joined with the way back to what was drafted before it.
+-- a step of the query's own path, joined with the query before it
 abbrev pub linked : Axis → Draft → Draft → Draft
-linked a before here = joinedTo And (root here) (added (part (Along (inverse a)) (root before) 0) here)
+linked a before here = added (part (Step a) (root here) (root before)) here
 
 abbrev pub spine-drafted : List ℕ → PathTree → List ℕ → Draft → Draft
 spine-drafted sheet (one s) rest d = linked (step-axis s) d (step-drafted sheet s rest d)

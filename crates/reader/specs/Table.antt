@@ -1,38 +1,130 @@
--- What a query table holds, read from its first place on: each part is a formula over those before it.
--- The reading is total: a part that names no earlier one has `*` in its place.
+-- What a query table reads as: each part is a piece over the pieces before it, and the table is the query of its last part.
+-- The reading is total. Where a part names none before it or one of another sort, "*" stands for what is asked, self::* for a filter, and a query starts anew.
 use mathlib.Core.List.{List, [], _∷_, _++_}
 use Prim.Native.Nat.{ℕ, _-_}
 use lib.ListN.{length, getD}
-use Rattle.model.specs.Query.{any, named}
-use Rattle.model.specs.Verdict.{Formula, test, first, conj, disj, neg, along}
+use Rattle.model.specs.declared.axis.Axis.{Axis}
+use Rattle.model.specs.declared.axis.Axis.the-variants.{Itself}
+use Rattle.model.specs.Query.{Test, any, named, Path, last, then, plain, filtered, Filter, holds, both, either, negated}
+use Rattle.model.specs.Query as model
 use Rattle.reader.specs.declared.table.Part.{Part}
 use Rattle.reader.specs.declared.table.Tag.{Tag}
-use Rattle.reader.specs.declared.table.Tag.the-variants.{First, Any, Named, Along, And, Or, Not}
+use Rattle.reader.specs.declared.table.Tag.the-variants.{First, Any, Named, Filtered, Then, Along, And, Or, Not, Step}
 
--- the formula at a place
-abbrev pub formulaAt : List Formula → ℕ → Formula
-formulaAt before i = getD before i (test any)
+-- what a step asks of the elements it keeps: a test, and perhaps a filter
+pub data Asked : Type 0 where
+  only : Test → Asked
+  also : Test → Filter → Asked
 
-abbrev pub tagged : Tag → List Formula → ℕ → ℕ → Formula
-tagged First before i j = first
-tagged Any before i j = test any
-tagged Named before i j = test (named i)
-tagged (Along a) before i j = along a (formulaAt before i)
-tagged And before i j = conj (formulaAt before i) (formulaAt before j)
-tagged Or before i j = disj (formulaAt before i) (formulaAt before j)
-tagged Not before i j = neg (formulaAt before i)
+-- What a part reads as. A query's own path and a path in a filter are of two sorts.
+pub data Piece : Type 0 where
+  begins : Piece
+  asks : Asked → Piece
+  onward : Asked → Path → Piece
+  path : Path → Piece
+  filter : Filter → Piece
+  query : Path → Piece
 
-abbrev pub formulaOf : List Formula → Part → Formula
-formulaOf before p = tagged (p .tag) before (p .first) (p .second)
+abbrev pub stepOf : Axis → Asked → model.Step
+stepOf a (only t) = plain a t
+stepOf a (also t f) = filtered a t f
 
--- the formulas of the parts, after those before them
-abbrev pub formulasAfter : List Formula → List Part → List Formula
-formulasAfter before [] = before
-formulasAfter before (p ∷ ps) = formulasAfter (before ++ (formulaOf before p ∷ [])) ps
+-- self::*
+abbrev pub itself : Path
+itself = last (plain Itself any)
 
-abbrev pub formulas : List Part → List Formula
-formulas ps = formulasAfter [] ps
+-- a path with one step more at its end
+abbrev pub extended : Path → model.Step → Path
+extended (last s) more = then s (last more)
+extended (then s p) more = then s (extended p more)
 
--- The parts read as the formula of the last one.
-abbrev pub reading : List Part → Formula
-reading ps = formulaAt (formulas ps) (length ps - 1)
+-- Each takes from a piece what it is asked for.
+abbrev pub testOf : Piece → Test
+testOf begins = any
+testOf (asks (only t)) = t
+testOf (asks (also t f)) = any
+testOf (onward x p) = any
+testOf (path p) = any
+testOf (filter f) = any
+testOf (query q) = any
+
+abbrev pub askedOf : Piece → Asked
+askedOf begins = only any
+askedOf (asks x) = x
+askedOf (onward x p) = only any
+askedOf (path p) = only any
+askedOf (filter f) = only any
+askedOf (query q) = only any
+
+abbrev pub pathOf : Piece → Path
+pathOf begins = itself
+pathOf (asks x) = itself
+pathOf (onward x p) = itself
+pathOf (path p) = p
+pathOf (filter f) = itself
+pathOf (query q) = itself
+
+-- the path along an axis: its last step, or a step with the rest
+abbrev pub pathTo : Axis → Piece → Path
+pathTo a begins = last (plain a any)
+pathTo a (asks x) = last (stepOf a x)
+pathTo a (onward x p) = then (stepOf a x) p
+pathTo a (path p) = last (plain a any)
+pathTo a (filter f) = last (plain a any)
+pathTo a (query q) = last (plain a any)
+
+abbrev pub filterOf : Piece → Filter
+filterOf begins = holds itself
+filterOf (asks x) = holds itself
+filterOf (onward x p) = holds itself
+filterOf (path p) = holds p
+filterOf (filter f) = f
+filterOf (query q) = holds itself
+
+-- a query with one step more
+abbrev pub queryWith : Piece → model.Step → Path
+queryWith begins s = last s
+queryWith (asks x) s = last s
+queryWith (onward x p) s = last s
+queryWith (path p) s = last s
+queryWith (filter f) s = last s
+queryWith (query q) s = extended q s
+
+abbrev pub queryOf : Piece → Path
+queryOf begins = itself
+queryOf (asks x) = itself
+queryOf (onward x p) = itself
+queryOf (path p) = itself
+queryOf (filter f) = itself
+queryOf (query q) = q
+
+-- the piece at a place
+abbrev pub pieceAt : List Piece → ℕ → Piece
+pieceAt before i = getD before i begins
+
+abbrev pub tagged : Tag → List Piece → ℕ → ℕ → Piece
+tagged First before i j = begins
+tagged Any before i j = asks (only any)
+tagged Named before i j = asks (only (named i))
+tagged Filtered before i j = asks (also (testOf (pieceAt before i)) (filterOf (pieceAt before j)))
+tagged Then before i j = onward (askedOf (pieceAt before i)) (pathOf (pieceAt before j))
+tagged (Along a) before i j = path (pathTo a (pieceAt before i))
+tagged And before i j = filter (both (filterOf (pieceAt before i)) (filterOf (pieceAt before j)))
+tagged Or before i j = filter (either (filterOf (pieceAt before i)) (filterOf (pieceAt before j)))
+tagged Not before i j = filter (negated (filterOf (pieceAt before i)))
+tagged (Step a) before i j = query (queryWith (pieceAt before j) (stepOf a (askedOf (pieceAt before i))))
+
+abbrev pub pieceOf : List Piece → Part → Piece
+pieceOf before p = tagged (p .tag) before (p .first) (p .second)
+
+-- the pieces of the parts, after those before them
+abbrev pub piecesAfter : List Piece → List Part → List Piece
+piecesAfter before [] = before
+piecesAfter before (p ∷ ps) = piecesAfter (before ++ (pieceOf before p ∷ [])) ps
+
+abbrev pub pieces : List Part → List Piece
+pieces ps = piecesAfter [] ps
+
+-- The parts read as the query of the last one.
+abbrev pub reading : List Part → Path
+reading ps = queryOf (pieceAt (pieces ps) (length ps - 1))

@@ -6,7 +6,6 @@ use crate::axes::word;
 use crate::draft::Draft;
 use crate::draft::Stuck;
 use crate::drafting::add;
-use crate::drafting::back;
 use crate::drafting::close;
 use crate::drafting::count;
 use crate::drafting::join;
@@ -127,7 +126,7 @@ fn step<'a>(text: &'a [u8], sheet: &[u8], draft: &mut Draft) -> Result<(Axis, &'
             let here = root(draft);
             let after = filter(inner, sheet, draft)?;
             let end = shut(after, b']')?;
-            join(draft, Tag::And, here);
+            join(draft, Tag::Filtered, here);
             Ok((axis, end))
         }
         _ => Ok((axis, rest)),
@@ -143,7 +142,7 @@ fn path<'a>(text: &'a [u8], sheet: &[u8], draft: &mut Draft) -> Result<&'a [u8],
         [b'/', more @ ..] => {
             let here = root(draft);
             let end = path(more, sheet, draft)?;
-            join(draft, Tag::And, here);
+            join(draft, Tag::Then, here);
             over(draft, Tag::Along(axis));
             Ok(end)
         }
@@ -219,7 +218,7 @@ fn joins<'a>(
     }
 }
 
-// The query's own path: each step is joined with the way back to what came before it.
+// The query's own path: each step is joined with the query before it.
 pub fn spine<'a>(text: &'a [u8], sheet: &[u8], draft: &mut Draft) -> Result<&'a [u8], Stuck>
     ensures { λ r. ⌜ SpineRead (now (sheet .entry)) (now (text .entry)) (now (draft .entry)) (now (draft .exit)) r ⌝ }
 {
@@ -229,12 +228,11 @@ pub fn spine<'a>(text: &'a [u8], sheet: &[u8], draft: &mut Draft) -> Result<&'a 
     add(
         draft,
         Part {
-            tag: Tag::Along(back(axis)),
-            first: before,
-            second: 0,
+            tag: Tag::Step(axis),
+            first: here,
+            second: before,
         },
     );
-    join(draft, Tag::And, here);
     match rest {
         [b'/', more @ ..] => spine(more, sheet, draft),
         _ => Ok(rest),

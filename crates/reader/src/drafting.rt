@@ -1,14 +1,12 @@
 // What readers do to a draft.
 ghost use mathlib.Core.Path.{_≡_};
 ghost use Prim.Native.Nat.{_-_};
-ghost use Rattle.model.specs.Axes.{inverse};
 ghost use Rattle.reader.specs.Drafts.{added, counted, noted, joinedTo, reached, closed};
 use crate::draft::Draft;
 use crate::draft::MOST_LENGTH;
 use crate::draft::MOST_PARTS;
 use crate::table::Part;
 use crate::table::Tag;
-use model::axis::Axis;
 
 // The place of the part that was written last.
 pub fn root(draft: &Draft) -> usize
@@ -75,24 +73,5 @@ pub fn close(draft: &mut Draft, waiting: Option<usize>)
     match waiting {
         Some(left) => join(draft, Tag::Or, left),
         None => {}
-    }
-}
-
-// The axis that leads back.
-pub fn back(axis: Axis) -> Axis
-    ensures { λ r. ⌜ r ≡ inverse axis ⌝ }
-{
-    match axis {
-        Axis::Itself => Axis::Itself,
-        Axis::Child => Axis::Parent,
-        Axis::Parent => Axis::Child,
-        Axis::Descendant => Axis::Ancestor,
-        Axis::Ancestor => Axis::Descendant,
-        Axis::DescendantOrSelf => Axis::AncestorOrSelf,
-        Axis::AncestorOrSelf => Axis::DescendantOrSelf,
-        Axis::FollowingSibling => Axis::PrecedingSibling,
-        Axis::PrecedingSibling => Axis::FollowingSibling,
-        Axis::Following => Axis::Preceding,
-        Axis::Preceding => Axis::Following,
     }
 }

@@ -6,20 +6,26 @@ use model::axis::AxisPartialEq;
 // What a part is.
 #[derive(Clone, Copy, PartialEq, Eq, Debug)]
 pub enum Tag {
-    // The first element.
+    // Where a query starts: the first element.
     First,
-    // Every element.
+    // The test "*".
     Any,
-    // The elements with the label `first`.
+    // The test for the label `first`.
     Named,
-    // Some element along the axis has part `first`.
+    // The test at `first` with the filter at `second`.
+    Filtered,
+    // In a filter: what is asked at `first`, and from there the path at `second`.
+    Then,
+    // A path in a filter: along the axis to what is asked at `first`, and on if that part is a `Then`.
     Along(Axis),
-    // Parts `first` and `second`.
+    // The filters at `first` and at `second`.
     And,
-    // Part `first` or part `second`.
+    // The filter at `first` or that at `second`.
     Or,
-    // Not part `first`.
+    // Not the filter at `first`.
     Not,
+    // The query at `second` with one step more: along the axis to what is asked at `first`.
+    Step(Axis),
 }
 
 #[derive(Clone, Copy, PartialEq, Eq, Debug)]

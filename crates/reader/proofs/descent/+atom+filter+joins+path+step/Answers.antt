@@ -7,7 +7,7 @@ use Rattle.grammar.specs.Machine.{axis, test}
 use Rattle.grammar.specs.Machine.{Frame}
 use Rattle.grammar.specs.Joins.{word}
 use Rattle.reader.specs.declared.descent.Word.{Word}
-use Rattle.reader.specs.declared.table.Tag.the-variants.{And}
+use Rattle.reader.specs.declared.table.Tag.the-variants.{Filtered, Then, And}
 use Rattle.reader.specs.Drafts.{joinedTo}
 use Rattle.reader.specs.Parsed.{joinOf}
 use Rattle.reader.proofs.Moves.{front}
@@ -93,7 +93,7 @@ path-returns-in-Break-end t c =
 pub path-returns-in-Continue-end : need.path-returns-in-Continue-end
 path-returns-in-Continue-end t c =
     let s = c .in-Continue-axis .ensures tt in
-    path-slash (c .args .sheet .now) (c .in-Continue-axis .axis) (c .args .text .now) (c .in-Continue-axis .rest .now) (c .args .draft .now) (c .step .last .draft) (s .0) (s .1) _ (c .in-Continue-end .end .now) _ _ _ (front (c .in-Continue-axis .rest .now) 47 (search needs) (search needs)) (c .in-Continue-end .ensures tt) (c .join .ensures ∙ ap (λ (l : ℕ). joinedTo And l (c .path .last .draft)) (c .root-here .ensures)) (c .over .ensures)
+    path-slash (c .args .sheet .now) (c .in-Continue-axis .axis) (c .args .text .now) (c .in-Continue-axis .rest .now) (c .args .draft .now) (c .step .last .draft) (s .0) (s .1) _ (c .in-Continue-end .end .now) _ _ _ (front (c .in-Continue-axis .rest .now) 47 (search needs) (search needs)) (c .in-Continue-end .ensures tt) (c .join .ensures ∙ ap (λ (l : ℕ). joinedTo Then l (c .path .last .draft)) (c .root-here .ensures)) (c .over .ensures)
 
 pub path-returns-in-rest : need.path-returns-in-rest
 path-returns-in-rest t c =
@@ -120,7 +120,7 @@ step-returns-in-Break-end t c =
 pub step-returns-in-Continue-end : need.step-returns-in-Continue-end
 step-returns-in-Continue-end t c =
     step-held (c .args .sheet .now) (c .in-Continue-axis .axis) (c .args .text .now) (c .in-Continue-axis .more .now) (c .in-Continue-rest .rest .now) (c .args .draft .now) (c .test .last .draft) (c .in-Continue-axis .ensures tt .0) (c .in-Continue-axis .ensures tt .1) (from-draft (c .count .ensures) (c .in-Continue-rest .ensures tt)) _ (c .in-Continue-after .after .now) (c .in-Continue-end .end .now) _ _ (front (c .in-Continue-rest .rest .now) 91 (search needs) (search needs)) (c .in-Continue-after .ensures tt) (c .in-Continue-end .ensures tt)
-    (c .join .ensures ∙ ap (λ (l : ℕ). joinedTo And l (c .filter .last .draft)) (c .root-here .ensures))
+    (c .join .ensures ∙ ap (λ (l : ℕ). joinedTo Filtered l (c .filter .last .draft)) (c .root-here .ensures))
 
 pub step-returns-in-rest : need.step-returns-in-rest
 step-returns-in-rest t c =
