@@ -70,7 +70,7 @@ mod tests {
 
     #[test]
     fn depths() -> Result<(), Fail> {
-        is_ok(b"/child::a[(((((((child::b)))))))]", 2, 7)?;
+        is_ok(b"/child::a[(((((((child::b)))))))]", 2, 6)?;
         check_eq(
             outcome(b"/child::a[((((((((child::b))))))))]", 110),
             Err(QueryFault::TooDeep(17)),
@@ -82,13 +82,13 @@ mod tests {
     fn lengths() -> Result<(), Fail> {
         let text =
             b"/self::a/self::a/self::a/self::a/self::a/self::a/self::a/self::a/self::a/self::a/self::a/self::a/self::a/self::a/self::a/self::a/self::a";
-        is_ok(&text[..128], 16, 49)?;
+        is_ok(&text[..128], 16, 33)?;
         check_eq(outcome(text, 110), Err(QueryFault::TooLong))?;
         check_eq(
             outcome(&text[..128], 97),
             Ok(QuerySize {
                 steps: 16,
-                places: 49,
+                places: 33,
             }),
         )?;
         check_eq(outcome(&text[..128], 96), Err(QueryFault::ShortTable))
@@ -136,7 +136,7 @@ mod tests {
             size,
             QuerySize {
                 steps: 6,
-                places: 13,
+                places: 12,
             },
         )?;
         check_eq(
@@ -155,7 +155,7 @@ mod tests {
                 second: 8,
             },
         )?;
-        check_eq(table[13], EMPTY)?;
+        check_eq(table[12], EMPTY)?;
         let left = read(
             b"/self::a[self::a or self::b or self::c]",
             SHEET,
@@ -165,7 +165,7 @@ mod tests {
             left,
             QuerySize {
                 steps: 6,
-                places: 13,
+                places: 12,
             },
         )?;
         check_eq(
