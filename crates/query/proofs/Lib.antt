@@ -1,6 +1,7 @@
 pub mod Moves
 pub mod Compose
 pub mod Pieces
+pub mod Formulas
 pub mod Built
 pub mod Noted
 pub mod Depth

@@ -5,3 +5,5 @@ pub mod Parsed
 pub mod Answers
 pub mod Limits
 pub mod Refusals
+pub mod Formulas
+pub mod Theorems

@@ -5,6 +5,7 @@ ghost use Prim.Native.Nat.{_≤_};
 ghost use lib.ListN.{length};
 ghost use Rattle.query.specs.Limits.{Drafted, Limited, Copied};
 ghost use Rattle.query.specs.Refusals.{queryRefusal};
+ghost use Rattle.query.specs.Theorems.{Tables-part-by-part, Accepted-as-written};
 
 mod axes;
 mod draft;
@@ -178,4 +179,18 @@ pub fn read(text: &[u8], sheet: &[u8], table: &mut [Part]) -> Result<QuerySize, 
             }
         },
     }
+}
+
+// Whatever a table holds, its parts, evaluated one by one, give the formula of the one query that it reads as. (A theorem: there is nothing to compute.)
+pub fn table_reads_as_formula() -> u8
+    ensures { λ _. ⌜ Tables-part-by-part ⌝ }
+{
+    0
+}
+
+// An accepted text has one tree, and its table reads as what that tree means. (A theorem.)
+pub fn table_reads_as_text() -> u8
+    ensures { λ _. ⌜ Accepted-as-written ⌝ }
+{
+    0
 }
