@@ -13,14 +13,14 @@ use Rattle.model.specs.declared.axis.Axis.the-variants.{Itself}
 use Rattle.model.specs.Axes.{inverse}
 use Rattle.model.specs.Query.{any, Path, last, then}
 use Rattle.model.specs.Query as m
-use Rattle.model.specs.Verdict.{Formula, test, first, conj, disj, neg, along, path-formula, filter-formula, step-from, path-from, query-formula}
+use Rattle.model.specs.Verdict.{Formula, test, first, conj, disj, neg, along, path-formula, filter-formula, step-from, query-formula}
 use Rattle.query.specs.declared.table.Part.{Part}
 use Rattle.query.specs.declared.table.Tag.{Tag}
 use Rattle.query.specs.declared.table.Tag.the-variants.{First, Any, Named, Filtered, Then, Along, And, Or, Not, Step}
 use Rattle.query.specs.Table.{Asked, only, also, Piece, begins, asks, onward, path, filter, query, stepOf, itself, extended, testOf, askedOf, pathOf, pathTo, filterOf, queryWith, queryOf, pieceAt, tagged, pieces, reading}
 use Rattle.query.specs.Formulas.{asked-formula, piece-formula, formulaAt, isTest, isAsked, isReached, isPath, isFilter, isStep, isQuery, partAt, tagAt, fitting, tag-formula, part-formula, PartByPart}
 use Rattle.query.specs.Theorems.{Tables-part-by-part}
-use Rattle.query.proofs.Pieces.{piece-is, piece-stays, piece-none}
+use Rattle.query.proofs.Pieces.{piece-is, piece-stays, piece-none, extended-from}
 
 -- What each taker takes from a piece, as a formula.
 abbrev tested : Piece → Formula
@@ -158,10 +158,6 @@ path-to a (onward x p) = path-here a x p
 path-to a (path p) = refl
 path-to a (filter f) = refl
 path-to a (query q) = refl
-
-extended-from : (f : Formula) (q : Path) (s : m.Step) → path-from f (extended q s) ≡ step-from (path-from f q) s
-extended-from f (last r) s = refl
-extended-from f (then r q) s = extended-from (step-from f r) q s
 
 query-with : (x : Piece) (s : m.Step) → query-formula (queryWith x s) ≡ step-from (so-far x) s
 query-with begins s = refl

@@ -1,12 +1,16 @@
--- Pieces: a part more is a piece more, and the pieces before it stay.
+-- Pieces: a part more is a piece more, and the pieces before it stay; the same for the steps of a query.
 use mathlib.Core.Path.{_≡_, refl, sym, _∙_, ap}
 use mathlib.Core.List.{List, [], _∷_, _++_}
 use Prim.Native.Nat.{ℕ, _+_, _<_, _≤_}
 use native.Mathlib.Omega.{arith}
 use lib.ListN.{length, take, drop}
 use Rattle.std.proofs.shelf.Lists.{length-append, length-take-le, getD-append-left, getD-push, getD-past, drop-more, take-append-drop}
+use Rattle.model.specs.Receipt.{Receipt}
+use Rattle.model.specs.Query.{Path, last, then, Step}
+use Rattle.model.specs.Selection.{Set, path-keeps, step-keeps}
+use Rattle.model.specs.Verdict.{Formula, path-from, step-from}
 use Rattle.query.specs.declared.table.Part.{Part}
-use Rattle.query.specs.Table.{Piece, begins, pieceAt, pieceOf, piecesAfter, pieces}
+use Rattle.query.specs.Table.{Piece, begins, extended, pieceAt, pieceOf, piecesAfter, pieces}
 use Rattle.query.specs.Formulas.{partAt}
 
 pub pieces-push : (before : List Piece) (ps : List Part) (p : Part) → piecesAfter before (ps ++ (p ∷ [])) ≡ piecesAfter before ps ++ (pieceOf (piecesAfter before ps) p ∷ [])
@@ -50,3 +54,12 @@ piece-is ps i h =
     let n = front-length ps i (omega arith) in
     ap (λ (y : List Piece). pieceAt y i) (front-split ps i (omega arith) ∙ ap (piecesAfter before) (drop-more ps i _ h))
     ∙ pieces-stay (before ++ (x ∷ [])) (drop (i + 1) ps) i (omega (arith, length-append before (x ∷ []))) ∙ getD-push before x begins i n
+
+-- One step more: what it keeps of what the query before it keeps, and its formula over that before it.
+pub extended-keeps : (r : Receipt) (q : Path) (s : Step) (from : Set) → path-keeps r (extended q s) from ≡ step-keeps r s (path-keeps r q from)
+extended-keeps r (last t) s from = refl
+extended-keeps r (then t q) s from = extended-keeps r q s (step-keeps r t from)
+
+pub extended-from : (f : Formula) (q : Path) (s : Step) → path-from f (extended q s) ≡ step-from (path-from f q) s
+extended-from f (last t) s = refl
+extended-from f (then t q) s = extended-from (step-from f t) q s

@@ -30,8 +30,7 @@ piece-formula (query q) = query-formula q
 abbrev pub formulaAt : List Part → ℕ → Formula
 formulaAt parts i = piece-formula (pieceAt (pieces parts) i)
 
--- What a part is, by its tag.
--- a test
+-- What a part is, by its tag: a test
 abbrev pub isTest : Tag → Bool
 isTest First = false
 isTest Any = true

@@ -181,14 +181,14 @@ pub fn read(text: &[u8], sheet: &[u8], table: &mut [Part]) -> Result<QuerySize, 
     }
 }
 
-// Whatever a table holds, its parts, evaluated one by one, give the formula of the one query that it reads as. (A theorem: there is nothing to compute.)
+// A theorem, with nothing to compute: whatever a table holds, its parts, taken one by one, give the formula of the one query that it reads as.
 pub fn table_reads_as_formula() -> u8
     ensures { λ _. ⌜ Tables-part-by-part ⌝ }
 {
     0
 }
 
-// An accepted text has one tree, and its table reads as what that tree means. (A theorem.)
+// A theorem: the table of an accepted text reads as what the text's one tree means.
 pub fn table_reads_as_text() -> u8
     ensures { λ _. ⌜ Accepted-as-written ⌝ }
 {
