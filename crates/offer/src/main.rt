@@ -2,7 +2,6 @@
 // is read as, part by part, or what is wrong with it and where.
 use model::axis::Axis;
 use model::fault::Fault;
-use model::fault::Layer;
 use names::NamesFault;
 use names::NamesFaultIsFault;
 use query::QueryFault;
@@ -10,19 +9,9 @@ use query::QueryFaultIsFault;
 use query::read;
 use reader::table::Part;
 use reader::table::Tag;
+use report::layer_name;
 use std::fs;
 use std::io;
-
-fn layer_word(layer: Layer) -> &'static str {
-    match layer {
-        Layer::Till => "till",
-        Layer::Receipt => "receipt",
-        Layer::Names => "names",
-        Layer::Query => "query",
-        Layer::Roll => "roll",
-        Layer::Count => "count",
-    }
-}
 
 fn axis_word(axis: Axis) -> &'static str {
     match axis {
@@ -66,13 +55,19 @@ fn show_part(rt: &impl Print, place: usize, part: Part) -> io::Result<()> {
         Tag::First => println!(rt, "  {place}: the first element"),
         Tag::Any => println!(rt, "  {place}: any element"),
         Tag::Named => println!(rt, "  {place}: label {first}"),
+        Tag::Filtered => println!(rt, "  {place}: {first} with filter {second}"),
+        Tag::Then => println!(rt, "  {place}: {first}, then {second}"),
         Tag::Along(a) => {
             let word = axis_word(a);
-            println!(rt, "  {place}: {word} with {first}")
+            println!(rt, "  {place}: {word} to {first}")
         }
         Tag::And => println!(rt, "  {place}: {first} and {second}"),
         Tag::Or => println!(rt, "  {place}: {first} or {second}"),
         Tag::Not => println!(rt, "  {place}: not {first}"),
+        Tag::Step(a) => {
+            let word = axis_word(a);
+            println!(rt, "  {place}: from {second}, {word} to {first}")
+        }
     }
 }
 
@@ -103,7 +98,7 @@ fn show(rt: &impl Print, text: &[u8], sheet: &[u8]) -> io::Result<()> {
         Err(fault) => {
             let refusal = fault.refusal();
             let number = refusal.number;
-            let layer = layer_word(refusal.layer);
+            let layer = layer_name(refusal.layer);
             let place = refusal.place;
             let sentence = query_sentence(fault);
             show_caret(rt, place)?;
@@ -119,7 +114,7 @@ fn main(rt: LibcRuntime) -> io::Result<()> {
         Err(fault) => {
             let refusal = fault.refusal();
             let number = refusal.number;
-            let layer = layer_word(refusal.layer);
+            let layer = layer_name(refusal.layer);
             let place = refusal.place;
             let sentence = names_sentence(fault);
             println!(rt, "refused by {number}, {layer}, at {place}: {sentence}")?;

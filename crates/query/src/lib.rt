@@ -6,6 +6,7 @@ ghost use lib.ListN.{length};
 ghost use Rattle.query.specs.Limits.{Drafted, Limited, Copied};
 ghost use Rattle.query.specs.Refusals.{queryRefusal};
 ghost use Rattle.query.specs.Theorems.{Fitting-is-accepted, One-fault};
+ghost use Rattle.query.specs.Tables.{Accepted-as-written, Tables-part-by-part};
 use model::fault::Fault;
 use model::fault::Layer;
 use model::fault::Refusal;
@@ -182,9 +183,23 @@ pub fn fitting_is_accepted() -> u8
     0
 }
 
+// A theorem, with nothing to compute: whatever a table holds, its parts, taken one by one, give the formula of the one query that it reads as.
+pub fn table_reads_as_formula() -> u8
+    ensures { λ _. ⌜ Tables-part-by-part ⌝ }
+{
+    0
+}
+
 // At most one fault applies to a text.
 pub fn one_fault() -> u8
     ensures { λ _. ⌜ One-fault ⌝ }
+{
+    0
+}
+
+// A theorem: the table of an accepted text reads as what the text's one tree means.
+pub fn table_reads_as_text() -> u8
+    ensures { λ _. ⌜ Accepted-as-written ⌝ }
 {
     0
 }

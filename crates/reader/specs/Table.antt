@@ -1,5 +1,5 @@
 -- What a query table reads as: each part is a piece over the pieces before it, and the table is the query of its last part.
--- The reading is total. Where a part names none before it or one of another sort, "*" stands for what is asked, self::* for a filter, and a query starts anew.
+-- The reading is total. Where a part names none before it or one of another sort, "*" stands for what is asked, self::* for a path or a filter, and a query starts anew. A table whose last part is no step reads as /self::*.
 use mathlib.Core.List.{List, [], _∷_, _++_}
 use Prim.Native.Nat.{ℕ, _-_}
 use lib.ListN.{length, getD}
@@ -16,7 +16,7 @@ pub data Asked : Type 0 where
   only : Test → Asked
   also : Test → Filter → Asked
 
--- What a part reads as. A query's own path and a path in a filter are of two sorts.
+-- What a part reads as: where a query starts, what is asked, that and the rest of a path in a filter, such a path, a filter, or a query.
 pub data Piece : Type 0 where
   begins : Piece
   asks : Asked → Piece
@@ -38,7 +38,7 @@ abbrev pub extended : Path → model.Step → Path
 extended (last s) more = then s (last more)
 extended (then s p) more = then s (extended p more)
 
--- Each takes from a piece what it is asked for.
+-- What is taken from a piece: a test, what is asked, a path, ..
 abbrev pub testOf : Piece → Test
 testOf begins = any
 testOf (asks (only t)) = t
