@@ -19,9 +19,9 @@ use Rattle.model.specs.declared.axis.Axis.{Axis}
 use Rattle.model.specs.Grammar.{TestTree, star, test-text, PathTree, StepTree, OrChain, AndChain, Atom, one, slash, bare, ands, or, and, along, parens, negate, axis-text, path-text, step-text, or-text, and-text, atom-text}
 use Rattle.model.specs.Grammar as g
 use Rattle.grammar.specs.Machines.{dead, go, stops}
-use Rattle.grammar.specs.Machine.{Frame, bracket, paren, State, lits, axis, test, name, held, step, done, joint, atom, shut, onShut, onDone, onStep, onHeld, onName, onAxis, on, run}
+use Rattle.grammar.specs.Machine.{Frame, bracket, paren, State, lits, axis, test, name, held, step, done, joint, atom, shut, onShut, onHeld, onAxis, on, run}
 use Rattle.grammar.specs.Joins.{Join, by-and, by-or, word, Joins, no-join, joined, joins-text}
-use Rattle.grammar.proofs.Forward.{go-on, held-assoc}
+use Rattle.grammar.proofs.Forward.{go-on, held-assoc, No, NoName, no-held, no-more, no-name}
 use Rattle.grammar.proofs.Chains.{mk-ors, ors-is}
 use Rattle.names.specs.Sheet.{labelIn}
 use Rattle.reader.specs.declared.draft.Stuck.{Stuck}
@@ -72,11 +72,11 @@ name-more k room b text more (Err x) q e h d =
     rw q (stops-via (name (suc k)) (name k) (λ (fs : List Frame). fs) text more (x .left) (omega (arith, ap length e)) (λ fs. ap (run (name (suc k) fs)) e ∙ on-name k b more fs h) d)
 
 pub name-ends : (room : ℕ) (text : List ℕ) → (1 ≤ length text → isNameByte (getD text 0 0) ≡ false) → (u : List ℕ) × (areNameBytes room u ≡ true) × (text ≡ u ++ text) × Takes (name room) held text text
-name-ends room text n = ([], refl, refl, record { falls = omega arith; goes = λ fs. stays room text fs n })
+name-ends room text n = ([], refl, refl, record { falls = omega arith; goes = λ fs. no-name room fs text (other text n) })
   where
-    stays : (room : ℕ) (text : List ℕ) (fs : List Frame) → (1 ≤ length text → isNameByte (getD text 0 0) ≡ false) → run (name room fs) text ≡ run (held fs) text
-    stays room [] fs n = refl
-    stays room (b ∷ t) fs n = ap (λ (v : Bool). go-on t (cond v (onName room fs) (onHeld fs b))) (n (omega arith))
+    other : (t : List ℕ) → (1 ≤ length t → isNameByte (getD t 0 0) ≡ false) → NoName t
+    other [] m = refl
+    other (b ∷ t) m = m (omega arith)
 
 -- Tests.
 on-letter : (b : ℕ) (t : List ℕ) (fs : List Frame) → isLetter b ≡ true → run (test fs) (b ∷ t) ≡ run (name 23 fs) t
@@ -109,13 +109,15 @@ no-test (b ∷ t) m n = record { fits = omega arith; halts = λ fs. ap (go-on t)
     dies fs = simp (ne-eqb b 42 (m (omega arith)), n (omega arith))
 
 -- What a byte that is not read says.
+first-is-not : (t : List ℕ) (b : ℕ) → eqb 0 b ≡ false → IsNot t b → No t b
+first-is-not [] b z n = z
+first-is-not (x ∷ t) b z n = ne-eqb x b (n (omega arith))
+
 no-bracket : (fs : List Frame) (t : List ℕ) → IsNot t 91 → run (held fs) t ≡ run (step fs) t
-no-bracket fs [] n = refl
-no-bracket fs (b ∷ t) n = ap (λ (v : Bool). go-on t (cond v (go (atom (bracket ∷ fs))) (onStep fs b))) (ne-eqb b 91 (n (omega arith)))
+no-bracket fs t n = no-held fs t (first-is-not t 91 refl n)
 
 no-slash : (fs : List Frame) (t : List ℕ) → IsNot t 47 → run (step fs) t ≡ run (done fs) t
-no-slash fs [] n = refl
-no-slash fs (b ∷ t) n = ap (λ (v : Bool). go-on t (cond v (go (axis fs)) (onDone fs b))) (ne-eqb b 47 (n (omega arith)))
+no-slash fs t n = no-more fs t (first-is-not t 47 refl n)
 
 no-blank : (f : Frame) (fs : List Frame) (t : List ℕ) → IsNot t 32 → run (done (f ∷ fs)) t ≡ run (shut (f ∷ fs)) t
 no-blank f fs [] n = refl
