@@ -16,7 +16,7 @@ use Rattle.model.specs.Limits.{most-elements, most-label, most-depth}
 use Rattle.model.specs.Receipt.{Element, Receipt, Lawful, absent, countOf, levelAt, labelAt, parentOf, firstChildOf, nextSiblingOf, previousSiblingOf, innermost, lastInside, opened}
 use Rattle.model.proofs.Relatives.{nearest-some}
 use Rattle.model.proofs.Search.{last-some}
-use Rattle.model.proofs.Opening.{count-more, level-old, label-old, level-new, parent-old, parent-new, prev-old, prev-new, first-at, first-else, first-of-new, next-at, next-else, next-of-new, opened-lawful}
+use Rattle.model.proofs.Opening.{count-more, level-old, element-old, level-new, parent-old, parent-new, prev-old, prev-new, first-at, first-else, first-of-new, next-at, next-else, next-of-new, opened-lawful}
 use Rattle.till.specs.declared.link.Link.{Link}
 use Rattle.till.specs.declared.Till.{Till}
 use Rattle.till.specs.Links.{unused, element, told, mark, Fits, Linked, Reads, Stepped, Ranged, Ends, informed, attached, withNext, withChild, lawfully}
