@@ -1,6 +1,11 @@
-// Query texts on either side of each limit, and texts that break the grammar at each kind of place.
+// Names sheets and query texts on either side of each limit, and texts that break the grammar at each kind of place.
 #[cfg(test)]
 mod tests {
+    use names::NamesFault;
+    use names::NamesFaultDebug;
+    use names::NamesFaultPartialEq;
+    use names::check as check_sheet;
+    use names::label;
     use query::QueryFault;
     use query::QueryFaultDebug;
     use query::QueryFaultPartialEq;
@@ -184,5 +189,32 @@ mod tests {
                 second: 8,
             },
         )
+    }
+
+    #[test]
+    fn sheets() -> Result<(), Fail> {
+        check_eq(check_sheet(b""), Ok(0))?;
+        check_eq(check_sheet(SHEET), Ok(5))?;
+        check_eq(check_sheet(&[10; 250]), Err(NamesFault::BadName(0)))?;
+        check_eq(check_sheet(&[10; 251]), Err(NamesFault::TooMuch))?;
+        check_eq(check_sheet(&[b'a'; 6250]), Err(NamesFault::BadName(24)))?;
+        check_eq(check_sheet(&[b'a'; 6251]), Err(NamesFault::TooMuch))
+    }
+
+    #[test]
+    fn sheet_places() -> Result<(), Fail> {
+        check_eq(check_sheet(b"abcdefghijklmnopqrstuvwx\n"), Ok(1))?;
+        check_eq(check_sheet(b"line"), Err(NamesFault::BadName(4)))?;
+        check_eq(check_sheet(b"line\n\n"), Err(NamesFault::BadName(5)))?;
+        check_eq(check_sheet(b"2for1\n"), Err(NamesFault::BadName(0)))?;
+        check_eq(check_sheet(b"a\nb\nb\na\n"), Err(NamesFault::Repeated(4)))
+    }
+
+    #[test]
+    fn labels() -> Result<(), Fail> {
+        check_eq(label(SHEET, b"a"), Some(1))?;
+        check_eq(label(SHEET, b"product"), Some(5))?;
+        check_eq(label(SHEET, b"prod"), None)?;
+        check_eq(label(SHEET, b""), None)
     }
 }
