@@ -1,22 +1,23 @@
 -- Back: what the machine takes is the text of a tree.
 use mathlib.Core.Path.{_≡_, refl, sym, _∙_, ap}
 use mathlib.Core.List.{List, [], _∷_, _++_, append-assoc, append-nil}
-use mathlib.Core.Bool.{Bool, true, false, cond, _&&_, _||_}
+use mathlib.Core.Bool.{Bool, true, false, cond, _&&_}
 use mathlib.Core.Logic.{_⊎_, inl, inr}
 use Prim.Native.Nat.{ℕ, zero, suc}
-use native.Mathlib.Omega.{arith}
 use lib.Chars.{codes}
 use lib.Dec.{eqb}
-use lib.ListN.{length, getD}
 use borrow.Author.Tests.{eqb-true}
 use Rattle.model.specs.Names.{isLetter, isNameByte, areNameBytes}
-use Rattle.model.specs.Grammar.{axis-text, TestTree, star, test-text, PathTree, StepTree, OrChain, AndChain, Atom, one, slash, bare, ands, or, and, along, parens, negate, path-text, step-text, or-text, and-text, atom-text, Query}
+use Rattle.model.specs.Grammar.{axis-text, TestTree, star, test-text, PathTree, Atom, ands, and, along, parens, negate, path-text, or-text, atom-text, Query}
 use Rattle.model.specs.Grammar as g
 use Rattle.model.specs.declared.axis.Axis.{Axis}
 use Rattle.model.specs.declared.axis.Axis.the-variants.{Itself, Child, Parent, DescendantOrSelf, AncestorOrSelf, Descendant, Ancestor, FollowingSibling, PrecedingSibling, Following, Preceding}
-use Rattle.grammar.specs.Machine.{Frame, bracket, paren, State, lit, axis, orSelf, orSibling, afterP, test, name, held, step, done, joint, atom, shut, Next, dead, go, lits, onShut, onDone, onStep, onHeld, onName, onAxis, on, Out, run, stops, taken, begin}
+use Rattle.grammar.specs.Machines.{Next, dead, go, taken}
+use Rattle.grammar.specs.Machine.{Frame, bracket, paren, State, lit, axis, orSelf, orSibling, afterP, test, name, held, step, done, joint, atom, shut, lits, onShut, onDone, onStep, onHeld, onName, onAxis, on, run, begin}
+use Rattle.grammar.proofs.Stopping.{clash}
 use Rattle.grammar.proofs.Forward.{go-on}
-use Rattle.grammar.proofs.Chains.{Tail, no-tail, tail, Join, by-and, by-or, Joins, no-join, joined, Hold, no-hold, hold, tail-text, word, joins-text, hold-text, mk-step, mk-path, mk-ors, ors-is, step-is, path-is}
+use Rattle.grammar.specs.Joins.{Join, by-and, by-or, Joins, no-join, joined, word, joins-text}
+use Rattle.grammar.proofs.Chains.{Tail, no-tail, tail, Hold, no-hold, hold, tail-text, hold-text, mk-step, mk-path, mk-ors, ors-is, step-is, path-is}
 
 -- the texts that a state may still take, in the grammar's words
 abbrev LDone : List Frame → List ℕ → Type 0
@@ -56,11 +57,11 @@ Left (joint fs) t = (w : Join) × (v : List ℕ) × (t ≡ word w ++ v) × LAtom
 Left (atom fs) t = LAtom fs t
 Left (shut fs) t = LShut fs t
 
-abbrev Sound : State → ℕ → List ℕ → Next → Type 0
+abbrev Sound : State → ℕ → List ℕ → Next State → Type 0
 Sound s b t dead = Unit {0}
 Sound s b t (go r) = Left r t → Left s (b ∷ t)
 
-if : (s : State) (b : ℕ) (t : List ℕ) (c : Bool) (x y : Next) → (c ≡ true → Sound s b t x) → Sound s b t y → Sound s b t (cond c x y)
+if : (s : State) (b : ℕ) (t : List ℕ) (c : Bool) (x y : Next State) → (c ≡ true → Sound s b t x) → Sound s b t y → Sound s b t (cond c x y)
 if s b t true x y p q = p refl
 if s b t false x y p q = q
 
@@ -111,7 +112,7 @@ on-shut [] b t = tt
 on-shut (bracket ∷ fs) b t = if (shut (bracket ∷ fs)) b t (eqb b 93) (go (step fs)) dead (λ e x. (x .0, x .1, cons b 93 _ _ e (x .2), x .3)) tt
 on-shut (paren ∷ fs) b t = if (shut (paren ∷ fs)) b t (eqb b 41) (go (done fs)) dead (λ e x. (t, cons b 41 _ _ e refl, x)) tt
 
-lift-done : (f : Frame) (fs : List Frame) (b : ℕ) (t : List ℕ) (n : Next) → Sound (shut (f ∷ fs)) b t n → Sound (done (f ∷ fs)) b t n
+lift-done : (f : Frame) (fs : List Frame) (b : ℕ) (t : List ℕ) (n : Next State) → Sound (shut (f ∷ fs)) b t n → Sound (done (f ∷ fs)) b t n
 lift-done f fs b t dead s = tt
 lift-done bracket fs b t (go r) s = λ x. let y = s x in (no-join, y .0, y .1, y .2, y .3)
 lift-done paren fs b t (go r) s = λ x. let y = s x in (no-join, y .0, y .1, y .2)
@@ -132,7 +133,7 @@ on-done (paren ∷ fs) b t =
     (λ e x. let a = x .3 in let y = a .3 in (joined (x .0) (a .0) (y .0), y .1, rejoin (x .0) (a .0) (y .0) b t (x .1) (a .1) (41 ∷ y .1) e (x .2) (a .2) (y .2), y .3))
     (lift-done paren fs b t (onShut (paren ∷ fs) b) (on-shut (paren ∷ fs) b t))
 
-lift-step : (fs : List Frame) (b : ℕ) (t : List ℕ) (n : Next) → Sound (done fs) b t n → Sound (step fs) b t n
+lift-step : (fs : List Frame) (b : ℕ) (t : List ℕ) (n : Next State) → Sound (done fs) b t n → Sound (step fs) b t n
 lift-step fs b t dead s = tt
 lift-step fs b t (go r) s = λ x. (no-tail, b ∷ t, refl, s x)
 
@@ -140,7 +141,7 @@ on-step : (fs : List Frame) (b : ℕ) (t : List ℕ) → Sound (step fs) b t (on
 on-step fs b t =
     if (step fs) b t (eqb b 47) (go (axis fs)) (onDone fs b) (λ e x. (tail (x .0), x .1, cons b 47 _ _ e (x .2), x .3)) (lift-step fs b t (onDone fs b) (on-done fs b t))
 
-lift-held : (fs : List Frame) (b : ℕ) (t : List ℕ) (n : Next) → Sound (step fs) b t n → Sound (held fs) b t n
+lift-held : (fs : List Frame) (b : ℕ) (t : List ℕ) (n : Next State) → Sound (step fs) b t n → Sound (held fs) b t n
 lift-held fs b t dead s = tt
 lift-held fs b t (go r) s = λ x. (no-hold, b ∷ t, refl, s x)
 
@@ -150,7 +151,7 @@ on-held fs b t =
     (λ e x. let y = x .3 in (hold (mk-ors (ands (g.atom (x .0))) (y .0)), tail-text (y .1) ++ y .2, cons b 91 _ _ e (shuts 93 (x .0) (y .0) t (x .1) (tail-text (y .1) ++ y .2) (x .2) (y .3) ∙ sym (append-assoc (or-text (mk-ors (ands (g.atom (x .0))) (y .0))) (93 ∷ []) (tail-text (y .1) ++ y .2))), (y .1, y .2, refl, y .4)))
     (lift-held fs b t (onStep fs b) (on-step fs b t))
 
-lift-name : (n : ℕ) (fs : List Frame) (b : ℕ) (t : List ℕ) (k : Next) → Sound (held fs) b t k → Sound (name n fs) b t k
+lift-name : (n : ℕ) (fs : List Frame) (b : ℕ) (t : List ℕ) (k : Next State) → Sound (held fs) b t k → Sound (name n fs) b t k
 lift-name n fs b t dead s = tt
 lift-name n fs b t (go r) s = λ x. ([], refl, b ∷ t, refl, s x)
 
@@ -158,7 +159,7 @@ more-name : (n : ℕ) (fs : List Frame) (b : ℕ) (t : List ℕ) → isNameByte 
 more-name zero fs b t e = tt
 more-name (suc n) fs b t e = λ x. (b ∷ x .0, ap (λ (v : Bool). v && areNameBytes n (x .0)) e ∙ x .1, x .2, ap (λ (y : List ℕ). b ∷ y) (x .3), x .4)
 
-lift-atom : (fs : List Frame) (b : ℕ) (t : List ℕ) (n : Next) → Sound (axis fs) b t n → Sound (atom fs) b t n
+lift-atom : (fs : List Frame) (b : ℕ) (t : List ℕ) (n : Next State) → Sound (axis fs) b t n → Sound (atom fs) b t n
 lift-atom fs b t dead s = tt
 lift-atom fs b t (go r) s = λ x. let y = s x in (along (y .0), y .1, y .2, y .3)
 
@@ -193,9 +194,6 @@ sound (atom fs) b t =
     (lift-atom fs b t (onAxis fs b) (on-axis fs b t)))
 sound (shut fs) b t = on-shut fs b t
 
-pub clash : (n : ℕ) → stops n ≡ taken → ⊥
-clash n e = let z : _≡_ {A = ℕ} 0 1 = cc in omega arith
-
 last : (s : State) → run s [] ≡ taken → Left s []
 last (lit c w s) e = absurd (clash 0 e)
 last (axis fs) e = absurd (clash 0 e)
@@ -216,7 +214,7 @@ last (atom fs) e = absurd (clash 0 e)
 last (shut []) e = refl
 last (shut (f ∷ fs)) e = absurd (clash 0 e)
 
-onward : (s : State) (b : ℕ) (t : List ℕ) (n : Next) → Sound s b t n → ((r : State) → run r t ≡ taken → Left r t) → go-on t n ≡ taken → Left s (b ∷ t)
+onward : (s : State) (b : ℕ) (t : List ℕ) (n : Next State) → Sound s b t n → ((r : State) → run r t ≡ taken → Left r t) → go-on t n ≡ taken → Left s (b ∷ t)
 onward s b t dead d ih e = absurd (clash _ e)
 onward s b t (go r) d ih e = d (ih r e)
 

@@ -5,20 +5,13 @@ use Prim.Native.Nat.{ℕ}
 use lib.Chars.{codes}
 use Rattle.model.specs.Grammar.{axis-text, TestTree, test-text, PathTree, StepTree, OrChain, AndChain, Atom, one, slash, bare, ands, or, and, path-text, step-text, or-text, and-text, atom-text}
 use Rattle.model.specs.Grammar as g
+use Rattle.grammar.specs.Joins.{Join, by-and, by-or, Joins, no-join, joined, word, joins-text}
 use Rattle.model.specs.declared.axis.Axis.{Axis}
 
 -- what may follow a step in its path, an atom in its filter, and a test in its step
 pub data Tail : Type 0 where
   no-tail : Tail
   tail : PathTree → Tail
-
-pub data Join : Type 0 where
-  by-and : Join
-  by-or : Join
-
-pub data Joins : Type 0 where
-  no-join : Joins
-  joined : Join → Atom → Joins → Joins
 
 pub data Hold : Type 0 where
   no-hold : Hold
@@ -27,14 +20,6 @@ pub data Hold : Type 0 where
 abbrev pub tail-text : Tail → List ℕ
 tail-text no-tail = []
 tail-text (tail p) = 47 ∷ path-text p
-
-abbrev pub word : Join → List ℕ
-word by-and = codes "and "
-word by-or = codes "or "
-
-abbrev pub joins-text : Joins → List ℕ
-joins-text no-join = []
-joins-text (joined w a j) = 32 ∷ (word w ++ (atom-text a ++ joins-text j))
 
 abbrev pub hold-text : Hold → List ℕ
 hold-text no-hold = []

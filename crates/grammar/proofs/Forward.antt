@@ -1,7 +1,7 @@
 -- Forward: the text of each tree runs through the machine, inside whatever is open.
 use mathlib.Core.Path.{_≡_, refl, sym, _∙_, ap}
-use mathlib.Core.List.{List, [], _∷_, _++_, append-assoc, append-nil}
-use mathlib.Core.Bool.{Bool, true, false, cond, _&&_, _||_}
+use mathlib.Core.List.{List, [], _∷_, _++_, append-assoc}
+use mathlib.Core.Bool.{Bool, true, false, cond}
 use Prim.Native.Nat.{ℕ, zero, suc}
 use lib.Chars.{codes}
 use lib.Dec.{eqb}
@@ -12,9 +12,10 @@ use Rattle.model.specs.Grammar.{axis-text, TestTree, star, test-text, PathTree,
 use Rattle.model.specs.Grammar as g
 use Rattle.model.specs.declared.axis.Axis.{Axis}
 use Rattle.model.specs.declared.axis.Axis.the-variants.{Itself, Child, Parent, DescendantOrSelf, AncestorOrSelf, Descendant, Ancestor, FollowingSibling, PrecedingSibling, Following, Preceding}
-use Rattle.grammar.specs.Machine.{Frame, bracket, paren, State, lit, axis, orSelf, orSibling, afterP, test, name, held, step, done, joint, atom, shut, Next, dead, go, lits, onShut, onDone, onStep, onHeld, onName, onAxis, on, Out, run, stops, taken}
+use Rattle.grammar.specs.Machines.{Next, dead, go, Out, stops}
+use Rattle.grammar.specs.Machine.{Frame, bracket, paren, State, axis, test, name, held, step, done, atom, onDone, onStep, onHeld, onName, run}
 
-abbrev pub go-on : List ℕ → Next → Out
+abbrev pub go-on : List ℕ → Next State → Out
 go-on t dead = stops (suc (length t))
 go-on t (go s) = run s t
 

@@ -1,3 +1,4 @@
+pub mod Stopping
 pub mod Forward
 pub mod Chains
 pub mod Back

@@ -1,20 +1,20 @@
 -- Unique: a text has at most one tree. A part is read off the front of a text, and what follows says where it ends.
 use mathlib.Core.Path.{_≡_, refl, sym, _∙_, ap, subst}
 use mathlib.Core.List.{List, [], _∷_, _++_, append-assoc, append-nil}
-use mathlib.Core.Bool.{Bool, true, false, cond, _&&_, Bool-set}
+use mathlib.Core.Bool.{true, false, cond, Bool-set}
 use Prim.Native.Nat.{ℕ, zero, suc, _+_, _<_, _≤_}
 use native.Mathlib.Omega.{arith}
-use lib.Chars.{codes}
 use lib.Dec.{eqb}
 use lib.ListN.{length, getD, drop, length-append}
 use Rattle.std.proofs.shelf.Tests.{and-parts, false≢true, eq-eqb}
 use Rattle.model.specs.Names.{isLetter, isNameByte, areNameBytes, isName}
-use Rattle.model.specs.Grammar.{axis-text, TestTree, star, name, test-text, PathTree, StepTree, OrChain, AndChain, Atom, one, slash, bare, held, ands, or, atom, and, along, parens, negate, path-text, step-text, or-text, and-text, atom-text, query-text, Reads}
+use Rattle.model.specs.Grammar.{axis-text, TestTree, star, name, test-text, PathTree, StepTree, OrChain, Atom, one, slash, bare, held, or, atom, and, along, parens, negate, path-text, step-text, or-text, atom-text}
 use Rattle.model.specs.declared.axis.Axis.{Axis}
 use Rattle.model.specs.declared.axis.Axis.the-variants.{Itself, Child, Parent, Descendant, Ancestor, DescendantOrSelf, AncestorOrSelf, FollowingSibling, PrecedingSibling, Following, Preceding}
 use Rattle.grammar.specs.Theorems.{Unambiguous}
 use Rattle.grammar.proofs.Forward.{No, NoName}
-use Rattle.grammar.proofs.Chains.{Tail, no-tail, tail, Join, by-and, by-or, Joins, no-join, joined, Hold, no-hold, hold, tail-text, word, joins-text, hold-text, mk-step, mk-path, mk-ors, step-is, first-of, joins-of, chain-again, chain-text}
+use Rattle.grammar.specs.Joins.{Join, by-and, by-or, Joins, no-join, joined, word, joins-text}
+use Rattle.grammar.proofs.Chains.{Hold, no-hold, hold, hold-text, mk-step, step-is, first-of, joins-of, chain-again, chain-text}
 
 -- Axes: the first one whose text the bytes begin with.
 data Found : Type 0 where

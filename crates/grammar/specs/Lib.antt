@@ -1,2 +1,4 @@
+pub mod Machines
 pub mod Machine
+pub mod Joins
 pub mod Theorems

@@ -6,8 +6,8 @@ use mathlib.Core.Bool.{Bool, true, false, cond}
 use Prim.Native.Nat.{ℕ, zero, suc}
 use lib.Chars.{codes}
 use lib.Dec.{eqb}
-use lib.ListN.{length}
 use Rattle.model.specs.Names.{isLetter, isNameByte}
+use Rattle.grammar.specs.Machines.{Next, dead, go, Out, runs}
 
 -- what is open: the "[" of a step, or a "(" with or without `not`
 pub data Frame : Type 0 where
@@ -41,35 +41,31 @@ pub data State : Type 0 where
   -- a closing byte alone
   shut : List Frame → State
 
-pub data Next : Type 0 where
-  dead : Next
-  go : State → Next
-
 -- the bytes, and then the state
 abbrev pub lits : List ℕ → State → State
 lits [] s = s
 lits (c ∷ w) s = lit c w s
 
-abbrev pub onShut : List Frame → ℕ → Next
+abbrev pub onShut : List Frame → ℕ → Next State
 onShut [] b = dead
 onShut (bracket ∷ fs) b = cond (eqb b 93) (go (step fs)) dead
 onShut (paren ∷ fs) b = cond (eqb b 41) (go (done fs)) dead
 
-abbrev pub onDone : List Frame → ℕ → Next
+abbrev pub onDone : List Frame → ℕ → Next State
 onDone [] b = dead
 onDone (f ∷ fs) b = cond (eqb b 32) (go (joint (f ∷ fs))) (onShut (f ∷ fs) b)
 
-abbrev pub onStep : List Frame → ℕ → Next
+abbrev pub onStep : List Frame → ℕ → Next State
 onStep fs b = cond (eqb b 47) (go (axis fs)) (onDone fs b)
 
-abbrev pub onHeld : List Frame → ℕ → Next
+abbrev pub onHeld : List Frame → ℕ → Next State
 onHeld fs b = cond (eqb b 91) (go (atom (bracket ∷ fs))) (onStep fs b)
 
-abbrev pub onName : ℕ → List Frame → Next
+abbrev pub onName : ℕ → List Frame → Next State
 onName zero fs = dead
 onName (suc n) fs = go (name n fs)
 
-abbrev pub onAxis : List Frame → ℕ → Next
+abbrev pub onAxis : List Frame → ℕ → Next State
 onAxis fs b =
     cond (eqb b 115) (go (lits (codes "elf::") (test fs)))
     (cond (eqb b 99) (go (lits (codes "hild::") (test fs)))
@@ -78,7 +74,7 @@ onAxis fs b =
     (cond (eqb b 97) (go (lits (codes "ncestor") (orSelf fs)))
     (cond (eqb b 102) (go (lits (codes "ollowing") (orSibling fs))) dead)))))
 
-abbrev pub on : State → ℕ → Next
+abbrev pub on : State → ℕ → Next State
 on (lit c w s) b = cond (eqb b c) (go (lits w s)) dead
 on (axis fs) b = onAxis fs b
 on (orSelf fs) b = cond (eqb b 58) (go (lits (codes ":") (test fs))) (cond (eqb b 45) (go (lits (codes "or-self::") (test fs))) dead)
@@ -113,14 +109,8 @@ ends (joint fs) = false
 ends (atom fs) = false
 ends (shut fs) = nothing-open fs
 
--- The whole text is taken, or the machine stops with so many bytes left.
-pub data Out : Type 0 where
-  taken : Out
-  stops : ℕ → Out
-
 abbrev pub run : State → List ℕ → Out
-run s [] = cond (ends s) taken (stops 0)
-run s (b ∷ t) = elim (on s b) [ dead ↦ stops (suc (length t)) | go r ↦ run r t ]
+run s t = runs on ends s t
 
 abbrev pub begin : State
 begin = lit 47 [] (axis [])

@@ -3,7 +3,6 @@ use mathlib.Core.Path.{_≡_}
 use mathlib.Core.List.{List}
 use mathlib.Core.Logic.{_⊎_}
 use Prim.Native.Nat.{ℕ}
-use lib.Chars.{codes}
 use Rattle.model.specs.Grammar.{PathTree, Reads, Query, Breaks}
 
 -- A text is a query, or it breaks the grammar at exactly one place (and then it is no query, by the definition of a break).
@@ -13,6 +12,3 @@ Query-or-one-place = (t : List ℕ) → Query t ⊎ ((p : ℕ) × Breaks t p × 
 -- A text has at most one tree.
 abbrev pub Unambiguous : Type 0
 Unambiguous = (t : List ℕ) (p q : PathTree) → Reads t p → Reads t q → p ≡ q
-
-abbrev pub Worked-places : Type 0
-Worked-places = Breaks (codes "/child:line") 7 × Breaks (codes "/child::line[") 13

@@ -1,5 +1,5 @@
 // What holds of the grammar of query texts. The functions here have nothing to compute: each states a theorem.
-ghost use Rattle.grammar.specs.Theorems.{Query-or-one-place, Unambiguous, Worked-places};
+ghost use Rattle.grammar.specs.Theorems.{Query-or-one-place, Unambiguous};
 
 // Every text is a query or breaks the grammar at one place.
 pub fn one_place() -> u8
@@ -11,13 +11,6 @@ pub fn one_place() -> u8
 // A text has at most one tree, and so at most one meaning.
 pub fn one_tree() -> u8
     ensures { λ _. ⌜ Unambiguous ⌝ }
-{
-    0
-}
-
-// A lone ":" breaks a text where the second should stand; an open filter breaks it at its end.
-pub fn worked_places() -> u8
-    ensures { λ _. ⌜ Worked-places ⌝ }
 {
     0
 }

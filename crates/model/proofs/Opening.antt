@@ -30,8 +30,8 @@ module _ (r : Receipt) (l : ℕ) where
   pub level-old : (k : ℕ) → k < countOf r → levelAt (opened r l) k ≡ levelAt r k
   level-old k h = ap (λ (e : Element). e .level) (getD-append-left (r .elements) (fresh r l ∷ []) absent k h)
 
-  pub label-old : (k : ℕ) → k < countOf r → getD (opened r l .elements) k absent ≡ getD (r .elements) k absent
-  label-old k h = getD-append-left (r .elements) (fresh r l ∷ []) absent k h
+  pub element-old : (k : ℕ) → k < countOf r → getD (opened r l .elements) k absent ≡ getD (r .elements) k absent
+  element-old k h = getD-append-left (r .elements) (fresh r l ∷ []) absent k h
 
   pub level-new : levelAt (opened r l) (countOf r) ≡ r .depth
   level-new = ap (λ (e : Element). e .level) (getD-push (r .elements) (fresh r l) absent (countOf r) refl)
@@ -182,7 +182,7 @@ module _ (r : Receipt) (l : ℕ) where
             (λ nz. let x = w .shallow i (omega arith) in let a = level-old i (omega arith) in omega arith) (cases-eq i (countOf r));
         named = λ i h. ⊎-elim
             (λ (z : i ≡ countOf r). let q = ap (labelAt (opened r l)) z ∙ label-new in (omega arith, omega arith))
-            (λ nz. let x = w .named i (omega arith) in let a = ap (λ (e : Element). e .label) (label-old i (omega arith)) in (omega arith, omega arith))
+            (λ nz. let x = w .named i (omega arith) in let a = ap (λ (e : Element). e .label) (element-old i (omega arith)) in (omega arith, omega arith))
             (cases-eq i (countOf r));
         empty-depth = λ z. absurd (omega arith);
         open-depth = λ i z. let q : i ≡ countOf r = omega arith in let x = ap (levelAt (opened r l)) q in omega arith;

@@ -2,12 +2,12 @@
 use mathlib.Core.Path.{_≡_}
 use mathlib.Core.List.{List, _++_}
 use mathlib.Core.Bool.{true}
-use Prim.Native.Nat.{ℕ, _+_, _≤_, _<_}
+use Prim.Native.Nat.{ℕ}
 use lib.Chars.{codes}
-use lib.ListN.{length, take}
 use Rattle.model.specs.declared.axis.Axis.{Axis}
 use Rattle.model.specs.declared.axis.Axis.the-variants.{Itself, Child, Parent, Descendant, Ancestor, DescendantOrSelf, AncestorOrSelf, FollowingSibling, PrecedingSibling, Following, Preceding}
 use Rattle.model.specs.Names.{isName}
+use Rattle.model.specs.Places.{BeginsIn, BreaksIn}
 use Rattle.model.specs.Query.{Test, any, named, Path, last, then, Step, plain, filtered, Filter, holds, both, either, negated}
 
 -- an axis as it stands before its test
@@ -90,14 +90,11 @@ Query t = (p : PathTree) × Reads t p
 
 -- the bytes begin some query, of any length and depth
 abbrev pub Begins : List ℕ → Type 0
-Begins t = (rest : List ℕ) × Query (t ++ rest)
+Begins t = BeginsIn Query t
 
 -- The text is no query, and the place is the least p whose first p + 1 bytes begin no query, else the text's length.
-pub record Breaks (t : List ℕ) (p : ℕ) : Type 0 where
-  pub within : p ≤ length t
-  pub before : (q : ℕ) → q ≤ p → Begins (take q t)
-  pub at : p < length t → Begins (take (p + 1) t) → ⊥
-  pub whole : Query t → ⊥
+abbrev pub Breaks : List ℕ → ℕ → Type 0
+Breaks t p = BreaksIn Query t p
 
 -- What a tree means, given the label of each name. Parentheses only group.
 abbrev pub test-meaning : (List ℕ → ℕ) → TestTree → Test

@@ -9,6 +9,7 @@ pub mod Plane
 pub mod Axes
 pub mod Query
 pub mod Names
+pub mod Places
 pub mod Grammar
 pub mod Selection
 pub mod Verdict

@@ -1,4 +1,4 @@
--- Each limit of the product, once.
+-- The limits of receipts and rates, each once; those of names and of query texts stand with their rules.
 use Prim.Native.Nat.{ℕ}
 
 -- the most elements of a receipt

@@ -11,7 +11,7 @@ use Rattle.model.specs.declared.action.Action.the-variants.{Open, Close}
 use Rattle.model.specs.Receipt.{Element, Receipt, Lawful, countOf, opened, closed}
 use Rattle.model.specs.Axes.{leads}
 use Rattle.model.specs.Runs.{openingFault, closingFault, afterOne, after}
-use Rattle.model.proofs.Opening.{count-more, label-old}
+use Rattle.model.proofs.Opening.{count-more, element-old}
 use Rattle.plane.specs.Steady.{Continues, RelationsStay}
 use Rattle.plane.proofs.Lawfully.{empty-lawful, unless, opening-lawful, closing-lawful}
 use Rattle.plane.proofs.Steady.{leads-opened, leads-closed, leads-new, leads-inverse, grows-opened, grows-closed, grows-ended, backward-never-grows}
@@ -25,7 +25,7 @@ continues-opened r l w f =
     record {
       lawful = opening-lawful r l w f;
       longer = omega arith;
-      label-kept = λ x h. ap (λ (e : Element). e .label) (label-old r l x h);
+      label-kept = λ x h. ap (λ (e : Element). e .label) (element-old r l x h);
       kept = leads-opened r l w f;
       nothing-new = λ a x y h e b c. let q : y ≡ countOf r = omega arith in ap (leads (opened r l) a x) q ∙ leads-new r l w f a x h e;
       shut = grows-opened r l w f;

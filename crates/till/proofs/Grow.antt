@@ -16,10 +16,11 @@ use Rattle.model.specs.Limits.{most-elements, most-label, most-depth}
 use Rattle.model.specs.Receipt.{Element, Receipt, Lawful, absent, countOf, levelAt, labelAt, parentOf, firstChildOf, nextSiblingOf, previousSiblingOf, innermost, lastInside, opened}
 use Rattle.model.proofs.Relatives.{nearest-some}
 use Rattle.model.proofs.Search.{last-some}
-use Rattle.model.proofs.Opening.{count-more, level-old, label-old, level-new, parent-old, parent-new, prev-old, prev-new, first-at, first-else, first-of-new, next-at, next-else, next-of-new, opened-lawful}
+use Rattle.model.proofs.Opening.{count-more, level-old, element-old, level-new, parent-old, parent-new, prev-old, prev-new, first-at, first-else, first-of-new, next-at, next-else, next-of-new, opened-lawful}
 use Rattle.till.specs.declared.link.Link.{Link}
 use Rattle.till.specs.declared.Till.{Till}
-use Rattle.till.specs.Links.{unused, element, told, mark, Fits, Linked, Reads, Stepped, Ranged, Ends, informed, attached, withNext, withChild, lawfully}
+use Rattle.till.specs.Links.{unused, element, told, mark, Fits, Linked, Reads, informed, attached, withNext, withChild}
+use Rattle.model.specs.Rules.{lawfully}
 
 pub told-count : (ls : List Link) (n d : ℕ) → n ≤ length ls → countOf (told ls n d) ≡ n
 told-count ls n d h = let m = length-map ls element in length-take-le n (map element ls) (omega arith)

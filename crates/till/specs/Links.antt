@@ -38,27 +38,6 @@ Linked ls n d = (i : ℕ) → i < n → Fits (told ls n d) i (getD ls i unused)
 abbrev pub Reads : List Link → ℕ → ℕ → Type 0
 Reads ls n d = (i : ℕ) → i < n → (levelAt (told ls n d) i ≡ getD ls i unused .level) × (labelAt (told ls n d) i ≡ getD ls i unused .label)
 
--- The rules of a lawful receipt, in three parts.
-abbrev pub Stepped : Receipt → Type 0
-Stepped r = (i : ℕ) → i + 1 < countOf r → (1 ≤ levelAt r (i + 1)) × (levelAt r (i + 1) ≤ levelAt r i + 1)
-
-abbrev pub Ranged : Receipt → Type 0
-Ranged r = (i : ℕ) → i < countOf r → (levelAt r i < most-depth) × (1 ≤ labelAt r i) × (labelAt r i ≤ most-label)
-
-abbrev pub Ends : Receipt → Type 0
-Ends r = (0 < countOf r → levelAt r 0 ≡ 0) × (countOf r ≡ 0 → r .depth ≡ 0) × ((i : ℕ) → i + 1 ≡ countOf r → r .depth ≤ levelAt r i + 1)
-
-pub lawfully : (r : Receipt) (n : ℕ) → countOf r ≡ n → n ≤ most-elements → Stepped r → Ranged r → Ends r → Lawful r
-lawfully r n e few s g t = record {
-  few = omega arith;
-  first = t .0;
-  later = s;
-  shallow = λ i h. g i h .0;
-  named = λ i h. (g i h .1, g i h .2);
-  empty-depth = t .1;
-  open-depth = t .2;
-}
-
 abbrev pub withNext : Link → ℕ → Link
 withNext l n = record { label = l .label; level = l .level; parent = l .parent; child = l .child; next = Some n; previous = l .previous }
 
