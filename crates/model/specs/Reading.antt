@@ -82,7 +82,7 @@ labelBreaks bytes n i = wrongLabel (byteAt bytes (labelPlace n i))
 abbrev pub greatestDepth : List ℕ → ℕ → ℕ
 greatestDepth bytes n = cond (eqb n 0) 0 (byteAt bytes (levelPlace (n - 1)) + 1)
 
--- a fault at the rank that a search found, or else what is next
+-- a fault at the rank that was found, or else what is next
 abbrev pub faultAt : (ℕ → RollFault) → Option ℕ → Option RollFault → Option RollFault
 faultAt f None next = next
 faultAt f (Some i) next = Some (f i)
