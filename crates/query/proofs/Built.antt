@@ -22,7 +22,7 @@ use Rattle.reader.specs.declared.table.Part.{Part}
 use Rattle.reader.specs.declared.table.Tag.{Tag}
 use Rattle.reader.specs.declared.table.Tag.the-variants.{Any, Named, Filtered, Then, Along, And, Or, Not, Step}
 use Rattle.reader.specs.Table.{Asked, only, also, Piece, begins, asks, onward, path, filter, query, stepOf, extended, testOf, askedOf, pathOf, pathTo, filterOf, queryWith, pieceAt, tagged, pieceOf, pieces}
-use Rattle.reader.specs.Drafts.{part, added, counted, noted, root, joinedTo, reached, labelled, joining, test-drafted, step-axis, step-drafted, path-drafted, or-drafted, and-drafted, atom-drafted, linked, spine-drafted}
+use Rattle.reader.specs.Drafts.{part, added, counted, noted, entered, exited, root, joinedTo, reached, labelled, joining, enclosed, test-drafted, step-axis, step-drafted, path-drafted, or-drafted, and-drafted, atom-drafted, linked, spine-drafted}
 use Rattle.query.specs.Answers.{orZero}
 use Rattle.query.proofs.Pieces.{pieces-push, pieces-length}
 
@@ -49,7 +49,7 @@ pub record Built (d e : Draft) (x : Piece) (n : ℕ) : Type 0 where
 
 -- the draft after a part that finds room
 abbrev put : Part → Draft → Draft
-put p d = record { parts = set (d .parts) (d .used) p; used = d .used + 1; count = d .count; unknown = d .unknown }
+put p d = record { parts = set (d .parts) (d .used) p; used = d .used + 1; count = d .count; unknown = d .unknown; depth = d .depth; deep = d .deep }
 
 added-is : (p : Part) (d : Draft) → d .used < 97 → added p d ≡ put p d
 added-is p d h = ap (λ (b : Bool). cond b (put p d) d) (lt-ltb (d .used) 97 h)
@@ -90,12 +90,18 @@ still d e h x y n m a b = b .keeps (root e) (omega (arith, a .more)) ∙ a .last
 weaken : (d e : Draft) (x y : Piece) (n m : ℕ) → n ≤ m → x ≡ y → Built d e x n → Built d e y m
 weaken d e x y n m h q b = record { ready = b .ready; more = b .more; most = omega (arith, b .most); keeps = b .keeps; last = b .last ∙ q }
 
--- Neither a count nor a note changes what is read.
+-- Neither a count nor a note nor a bracket changes what is read.
 from-counted : (d e : Draft) (x : Piece) (n : ℕ) → Built (counted d) e x n → Built d e x n
 from-counted d e x n b = record { ready = b .ready; more = b .more; most = b .most; keeps = b .keeps; last = b .last }
 
 ready-counted : (d : Draft) → Ready d → Ready (counted d)
 ready-counted d r = record { size = r .size; fits = r .fits }
+
+built-enclosed : (left : ℕ) (d e : Draft) (x : Piece) (n : ℕ) → Built (entered left d) e x n → Built d (exited e) x n
+built-enclosed left d e x n b = record { ready = record { size = b .ready .size; fits = b .ready .fits }; more = b .more; most = b .most; keeps = b .keeps; last = b .last }
+
+ready-entered : (left : ℕ) (d : Draft) → Ready d → Ready (entered left d)
+ready-entered left d r = record { size = r .size; fits = r .fits }
 
 built-noted : (left : ℕ) (d e : Draft) (x : Piece) (n : ℕ) → Built d e x n → Built d (noted left e) x n
 built-noted left d e x n b = record { ready = record { size = b .ready .size; fits = b .ready .fits }; more = b .more; most = b .most; keeps = b .keeps; last = b .last }
@@ -190,10 +196,11 @@ module _ (sheet : List ℕ) where
         let rest′ = 91 ∷ (or-text f ++ (93 ∷ rest)) in
         let e = test-drafted sheet x rest′ (counted d) in
         let b = test-built x rest′ d r (omega arith) in
-        let k = or-built f (93 ∷ rest) e (b .ready) (omega (arith, b .most)) in
+        let left = length (or-text f ++ (93 ∷ rest)) in
+        let k = built-enclosed left e _ _ _ (or-built f (93 ∷ rest) (entered left e) (ready-entered left e (b .ready)) (omega (arith, b .most))) in
         let make : Piece → Piece → Piece = λ y z. asks (also (testOf y) (filterOf z)) in
         weaken d _ _ _ (1 + 4 * filter-length (or-meaning label f) + 1) _ (omega arith) (ap (λ (z : Filter). asks (also (test-meaning label x) z)) (held-is (or-meaning label f)))
-        (built-join Filtered make (λ before i j. refl) d e (or-drafted sheet f (93 ∷ rest) e) _ _ 1 _ b k (omega (arith, b .most, k .most)))
+        (built-join Filtered make (λ before i j. refl) d e (enclosed (or-text f) (or-drafted sheet f) (93 ∷ rest) e) _ _ 1 _ b k (omega (arith, b .most, k .most)))
 
     path-built : (p : PathTree) → PathBuilt p
     path-built (one s) rest d r h =
@@ -232,11 +239,14 @@ module _ (sheet : List ℕ) where
 
     atom-built : (a : Atom) (rest : List ℕ) (d : Draft) → Ready d → d .used + 4 * filter-length (atom-meaning label a) ≤ 97 → Built d (atom-drafted sheet a rest d) (held (atom-meaning label a)) (4 * filter-length (atom-meaning label a))
     atom-built (along p) rest d r h = path-built p rest d r h
-    atom-built (parens f) rest d r h = or-built f (41 ∷ rest) d r h
+    atom-built (parens f) rest d r h =
+        let left = length (or-text f ++ (41 ∷ rest)) in
+        built-enclosed left d _ _ _ (or-built f (41 ∷ rest) (entered left d) (ready-entered left d r) h)
     atom-built (negate f) rest d r h =
-        let b = from-counted d _ _ _ (or-built f (41 ∷ rest) (counted d) (ready-counted d r) (omega arith)) in
+        let left = length (or-text f ++ (41 ∷ rest)) in
+        let b = from-counted d _ _ _ (built-enclosed left (counted d) _ _ _ (or-built f (41 ∷ rest) (entered left (counted d)) (ready-entered left (counted d) (ready-counted d r)) (omega arith))) in
         let make : Piece → Piece = λ y. filter (negated (filterOf y)) in
-        weaken d _ _ _ _ _ (omega arith) (ap (λ (z : Filter). filter (negated z)) (held-is (or-meaning label f))) (built-over Not make (λ before i. refl) d (or-drafted sheet f (41 ∷ rest) (counted d)) _ _ b (omega (arith, b .most)))
+        weaken d _ _ _ _ _ (omega arith) (ap (λ (z : Filter). filter (negated z)) (held-is (or-meaning label f))) (built-over Not make (λ before i. refl) d (enclosed (or-text f) (or-drafted sheet f) (41 ∷ rest) (counted d)) _ _ b (omega (arith, b .most)))
 
   -- a step joined with the query before it
   link-built : (s : StepTree) (rest : List ℕ) (d : Draft) (before : Piece) → Ready d → 0 < d .used → pieceAt (read d) (root d) ≡ before → d .used + 4 * step-length (step-meaning label s) ≤ 97 → Built d (linked (step-axis s) d (step-drafted sheet s rest d)) (query (queryWith before (step-meaning label s))) (4 * step-length (step-meaning label s))

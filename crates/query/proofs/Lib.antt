@@ -2,6 +2,6 @@ pub mod Pieces
 pub mod Formulas
 pub mod Built
 pub mod Noted
-pub mod Depth
+pub mod Deep
 pub mod Whole
 pub mod Exact

@@ -20,25 +20,25 @@ use Rattle.names.specs.Sheet.{labelIn}
 use Rattle.reader.specs.declared.draft.Draft.{Draft}
 use Rattle.reader.specs.declared.table.Part.{Part}
 use Rattle.reader.specs.declared.table.Tag.the-variants.{Any, Named}
-use Rattle.reader.specs.Drafts.{part, added, counted, firstOf, noted, root, joinedTo, reached, labelled, joining, test-drafted, step-axis, step-drafted, path-drafted, or-drafted, and-drafted, atom-drafted, linked, spine-drafted}
+use Rattle.reader.specs.Drafts.{part, added, counted, firstOf, noted, entered, exited, root, joinedTo, reached, labelled, joining, enclosed, test-drafted, step-axis, step-drafted, path-drafted, or-drafted, and-drafted, atom-drafted, linked, spine-drafted}
 use Rattle.query.specs.Answers.{test-names, path-names, step-names, or-names, and-names, atom-names, firstUnknown}
 use Rattle.query.proofs.Built.{label}
 
 added-count : (p : Part) (d : Draft) → added p d .count ≡ d .count
 added-count p d = by (ltb (d .used) 97)
   where
-    by : (b : Bool) → cond b (record { parts = set (d .parts) (d .used) p; used = d .used + 1; count = d .count; unknown = d .unknown }) d .count ≡ d .count
+    by : (b : Bool) → cond b (record { parts = set (d .parts) (d .used) p; used = d .used + 1; count = d .count; unknown = d .unknown; depth = d .depth; deep = d .deep }) d .count ≡ d .count
     by true = refl
     by false = refl
 
 added-unknown : (p : Part) (d : Draft) → added p d .unknown ≡ d .unknown
 added-unknown p d = by (ltb (d .used) 97)
   where
-    by : (b : Bool) → cond b (record { parts = set (d .parts) (d .used) p; used = d .used + 1; count = d .count; unknown = d .unknown }) d .unknown ≡ d .unknown
+    by : (b : Bool) → cond b (record { parts = set (d .parts) (d .used) p; used = d .used + 1; count = d .count; unknown = d .unknown; depth = d .depth; deep = d .deep }) d .unknown ≡ d .unknown
     by true = refl
     by false = refl
 
-or-none : (o : Option ℕ) → o ≡ orElse o None
+pub or-none : (o : Option ℕ) → o ≡ orElse o None
 or-none None = refl
 or-none (Some u) = refl
 
@@ -76,6 +76,10 @@ module _ (sheet : List ℕ) where
         over = λ h. ⊎-elim (λ (k : 16 < d .count). omega (arith, ap (λ (b : Bool). cond b (d .count + 1) (d .count)) (lt-leb (d .count) 16 k))) (λ (k : d .count ≤ 16). omega (arith, ap (λ (b : Bool). cond b (d .count + 1) (d .count)) (le-leb (d .count) 16 k))) (cases-lt 16 (d .count));
         first = or-none (d .unknown);
       }
+
+  -- Brackets change neither.
+  noted-enclosed : (left : ℕ) (d e : Draft) (l : ℕ) (ns : List (List ℕ × List ℕ)) → Noted (entered left d) e l ns → Noted d (exited e) l ns
+  noted-enclosed left d e l ns n = record { exact = n .exact; over = n .over; first = n .first }
 
   noted-then : (d e h : Draft) (l m : ℕ) (ns ms : List (List ℕ × List ℕ)) → Noted d e l ns → Noted e h m ms → Noted d h (l + m) (ns ++ ms)
   noted-then d e h l m ns ms a b =
@@ -117,7 +121,7 @@ module _ (sheet : List ℕ) where
     step-noted (held a x f) rest d =
         let rest′ = 91 ∷ (or-text f ++ (93 ∷ rest)) in
         let e = test-drafted sheet x rest′ (counted d) in
-        noted-add _ d _ _ _ (noted-then d e (or-drafted sheet f (93 ∷ rest) e) 1 (filter-length (or-meaning word f)) (test-names x rest′) (or-names f (93 ∷ rest)) (counted-test x rest′ d) (or-noted f (93 ∷ rest) e))
+        noted-add _ d _ _ _ (noted-then d e (enclosed (or-text f) (or-drafted sheet f) (93 ∷ rest) e) 1 (filter-length (or-meaning word f)) (test-names x rest′) (or-names f (93 ∷ rest)) (counted-test x rest′ d) (noted-enclosed (length (or-text f ++ (93 ∷ rest))) e _ _ _ (or-noted f (93 ∷ rest) (entered (length (or-text f ++ (93 ∷ rest))) e))))
 
     path-noted : (p : PathTree) (rest : List ℕ) (d : Draft) → Noted d (path-drafted sheet p rest d) (path-length (path-meaning word p)) (path-names p rest)
     path-noted (one s) rest d = noted-add _ d _ _ _ (step-noted s rest d)
@@ -150,8 +154,8 @@ module _ (sheet : List ℕ) where
 
     atom-noted : (a : Atom) (rest : List ℕ) (d : Draft) → Noted d (atom-drafted sheet a rest d) (filter-length (atom-meaning word a)) (atom-names a rest)
     atom-noted (along p) rest d = path-noted p rest d
-    atom-noted (parens f) rest d = or-noted f (41 ∷ rest) d
-    atom-noted (negate f) rest d = noted-add _ d _ _ _ (noted-then d (counted d) (or-drafted sheet f (41 ∷ rest) (counted d)) 1 (filter-length (or-meaning word f)) [] (or-names f (41 ∷ rest)) (noted-count d) (or-noted f (41 ∷ rest) (counted d)))
+    atom-noted (parens f) rest d = noted-enclosed (length (or-text f ++ (41 ∷ rest))) d _ _ _ (or-noted f (41 ∷ rest) (entered (length (or-text f ++ (41 ∷ rest))) d))
+    atom-noted (negate f) rest d = noted-add _ d _ _ _ (noted-then d (counted d) (enclosed (or-text f) (or-drafted sheet f) (41 ∷ rest) (counted d)) 1 (filter-length (or-meaning word f)) [] (or-names f (41 ∷ rest)) (noted-count d) (noted-enclosed (length (or-text f ++ (41 ∷ rest))) (counted d) _ _ _ (or-noted f (41 ∷ rest) (entered (length (or-text f ++ (41 ∷ rest))) (counted d)))))
 
   pub spine-noted : (p : PathTree) (rest : List ℕ) (d : Draft) → Noted d (spine-drafted sheet p rest d) (path-length (path-meaning word p)) (path-names p rest)
   spine-noted (one s) rest d = noted-add _ d _ _ _ (step-noted s rest d)

@@ -28,6 +28,7 @@ use Rattle.reader.proofs.Moves.{Not as IsNot}
 use Rattle.reader.proofs.Compose.{ParsedSpine}
 use Rattle.query.proofs.Built.{Ready, Built, query-built}
 use Rattle.query.proofs.Noted.{Noted, spine-noted}
+use Rattle.query.proofs.Deep.{placed, deep-noted}
 
 -- The grammar's side.
 past-end : (t : List ℕ) → (length t ≡ 0 → ⊥) → run (done []) t ≡ stops (length t)
@@ -79,6 +80,13 @@ facts-of sheet tree =
 pub facts : (t sheet : List ℕ) (d : Draft) (k : Tree t sheet started d) → Facts sheet (k .tree) d
 facts t sheet d k = subst (λ (e : Draft). Facts sheet (k .tree) e) (sym (k .made)) (facts-of sheet (k .tree))
 
+deep-place-is : (t sheet : List ℕ) (d : Draft) → Tree t sheet started d → deepPlace t ≡ placed (length t) (d .deep)
+deep-place-is t sheet d k =
+    ap deepPlace (k .reads) ∙ deep-noted sheet (k .tree) ∙ ap (λ (u : List ℕ). placed (length u) (spine-drafted sheet (k .tree) [] started .deep)) (sym (k .reads)) ∙ ap (λ (e : Draft). placed (length t) (e .deep)) (sym (k .made))
+
+sound : (t sheet : List ℕ) (d : Draft) → Sized t → (k : Tree t sheet started d) → d .deep ≡ None → Sound t (k .tree)
+sound t sheet d s k n = record { sized = s; reads = k .reads; shallow = deep-place-is t sheet d k ∙ ap (placed (length t)) n }
+
 -- a count within the limit is the length
 pub short : (sheet : List ℕ) (tree : PathTree) (d : Draft) → Facts sheet tree d → d .count ≤ 16 → lengthOf sheet tree ≤ 16
 short sheet tree d f h = ⊎-elim (λ (k : 16 < lengthOf sheet tree). absurd (omega (arith, f .over k))) (λ (k : lengthOf sheet tree ≤ 16). k) (cases-lt 16 (lengthOf sheet tree))
@@ -89,15 +97,15 @@ long sheet tree d f h = ⊎-elim (λ (k : 16 < lengthOf sheet tree). k) (λ (k :
 pub refused : (t sheet : List ℕ) (n : ℕ) (d : Draft) (f : QueryFault) → Sized t → Tree t sheet started d → Limited t d n (Some f) → Refused t sheet n f
 refused t sheet n d BadSize s k l = absurd l
 refused t sheet n d (Broken p) s k l = absurd l
-refused t sheet n d (TooDeep p) s k l = (s, (k .tree, k .reads), l)
-refused t sheet n d TooLong s k l = (k .tree, record { sized = s; reads = k .reads; shallow = l .0 }, long sheet (k .tree) d (facts t sheet d k) (l .1))
+refused t sheet n d (TooDeep p) s k l = (s, (k .tree, k .reads), deep-place-is t sheet d k ∙ ap (placed (length t)) (l .1) ∙ ap Some (sym (l .2)))
+refused t sheet n d TooLong s k l = (k .tree, sound t sheet d s k (l .0), long sheet (k .tree) d (facts t sheet d k) (l .1))
 refused t sheet n d (UnknownName p) s k l =
     let f = facts t sheet d k in
-    (k .tree, record { sized = s; reads = k .reads; shallow = l .0 }, short sheet (k .tree) d f (l .1), (l .2 .0, sym (f .unknown) ∙ l .2 .1, l .2 .2))
+    (k .tree, sound t sheet d s k (l .0), short sheet (k .tree) d f (l .1), (l .2 .0, sym (f .unknown) ∙ l .2 .1, l .2 .2))
 refused t sheet n d ShortTable s k l =
     let f = facts t sheet d k in
     let h = short sheet (k .tree) d f (l .1) in
-    (k .tree, record { sized = s; reads = k .reads; shallow = l .0 }, h, sym (f .unknown) ∙ l .2, omega (arith, f .exact h, l .3))
+    (k .tree, sound t sheet d s k (l .0), h, sym (f .unknown) ∙ l .2, omega (arith, f .exact h, l .3))
 
 -- the parts fit into the table
 pub room : (t sheet : List ℕ) (n : ℕ) (d : Draft) → Tree t sheet started d → Limited t d n None → (d .used ≤ 97) × (d .used ≤ n)
@@ -116,7 +124,7 @@ accepted t sheet old new d s k l c =
     let w : length (take (d .used) (d .parts)) ≡ d .used = length-take-le (d .used) (d .parts) (omega (arith, b .ready .size, b .ready .fits)) in
     record {
       tree = k .tree;
-      sound = record { sized = s; reads = k .reads; shallow = l .0 };
+      sound = sound t sheet d s k (l .0);
       length-is = e;
       short = l .1;
       known = sym (f .unknown) ∙ l .2;

@@ -11,7 +11,6 @@ use Rattle.query.specs.declared.QueryFault.the-variants.{BadSize, Broken, TooD
 use Rattle.reader.specs.declared.draft.Draft.{Draft}
 use Rattle.reader.specs.declared.table.Part.{Part}
 use Rattle.reader.specs.Drafts.{spine-drafted}
-use Rattle.query.specs.Answers.{deepPlace}
 
 pub record Tree (t sheet : List ℕ) (old new : Draft) : Type 0 where
   pub tree : PathTree
@@ -24,13 +23,13 @@ Drafted t sheet old new (Some p) = Breaks t p
 
 -- by what the draft counts and notes
 abbrev pub Limited : List ℕ → Draft → ℕ → Option QueryFault → Type 0
-Limited t d n None = (deepPlace t ≡ None) × (d .count ≤ 16) × (d .unknown ≡ None) × (6 * d .count + 1 ≤ n)
+Limited t d n None = (d .deep ≡ None) × (d .count ≤ 16) × (d .unknown ≡ None) × (6 * d .count + 1 ≤ n)
 Limited t d n (Some BadSize) = ⊥
 Limited t d n (Some (Broken p)) = ⊥
-Limited t d n (Some (TooDeep p)) = deepPlace t ≡ Some p
-Limited t d n (Some TooLong) = (deepPlace t ≡ None) × (16 < d .count)
-Limited t d n (Some (UnknownName p)) = (deepPlace t ≡ None) × (d .count ≤ 16) × ((left : ℕ) × (d .unknown ≡ Some left) × (p ≡ length t - left))
-Limited t d n (Some ShortTable) = (deepPlace t ≡ None) × (d .count ≤ 16) × (d .unknown ≡ None) × (n < 6 * d .count + 1)
+Limited t d n (Some (TooDeep p)) = (left : ℕ) × (d .deep ≡ Some left) × (p ≡ length t - left - 1)
+Limited t d n (Some TooLong) = (d .deep ≡ None) × (16 < d .count)
+Limited t d n (Some (UnknownName p)) = (d .deep ≡ None) × (d .count ≤ 16) × ((left : ℕ) × (d .unknown ≡ Some left) × (p ≡ length t - left))
+Limited t d n (Some ShortTable) = (d .deep ≡ None) × (d .count ≤ 16) × (d .unknown ≡ None) × (n < 6 * d .count + 1)
 
 pub record Copied (n : ℕ) (parts old new : List Part) : Type 0 where
   pub front : take n new ≡ take n parts

@@ -1,6 +1,5 @@
 // Checked queries: a query text read into a table of parts, or the refusal that names what is wrong.
-ghost use mathlib.Core.Path.{_≡_};
-ghost use Rattle.query.specs.Answers.{Answered, deepPlace, isOpening, isClosing};
+ghost use Rattle.query.specs.Answers.{Answered};
 ghost use Prim.Native.Nat.{_≤_};
 ghost use lib.ListN.{length};
 ghost use Rattle.query.specs.Limits.{Drafted, Limited, Copied};
@@ -18,9 +17,6 @@ use reader::table::Part;
 
 // The most bytes of a query text.
 pub const MOST_TEXT: usize = 512;
-
-// The most "[" and "(" that are open at once.
-pub const MOST_OPEN: usize = 8;
 
 // The length of an accepted query, and the places that it takes in the table.
 #[derive(Clone, Copy, PartialEq, Eq, Debug)]
@@ -66,38 +62,6 @@ pub impl Fault for QueryFault as QueryFaultIsFault {
     }
 }
 
-// Whether the byte is "[" or "(".
-fn is_opening(b: u8) -> bool
-    ensures { λ r. ⌜ r ≡ isOpening b ⌝ }
-{
-    b == b'[' || b == b'('
-}
-
-// Whether the byte is "]" or ")".
-fn is_closing(b: u8) -> bool
-    ensures { λ r. ⌜ r ≡ isClosing b ⌝ }
-{
-    b == b']' || b == b')'
-}
-
-// Where one more "[" or "(" than may be is open for the first time.
-fn deep_place(text: &[u8]) -> Option<usize>
-    ensures { λ r. ⌜ r ≡ deepPlace (now (text .entry)) ⌝ }
-{
-    let mut depth: usize = 0;
-    for (i, b) in text.iter().enumerate() {
-        if is_opening(*b) {
-            if depth >= MOST_OPEN {
-                return Some(i);
-            }
-            depth += 1;
-        } else if is_closing(*b) {
-            depth = depth.saturating_sub(1);
-        }
-    }
-    None
-}
-
 // Reads the whole text into the draft, or answers where the grammar is broken.
 fn parse(text: &[u8], sheet: &[u8], draft: &mut Draft) -> Option<usize>
     ensures { λ r. ⌜ Drafted (now (text .entry)) (now (sheet .entry)) (now (draft .entry)) (now (draft .exit)) r ⌝ }
@@ -121,8 +85,8 @@ fn parse(text: &[u8], sheet: &[u8], draft: &mut Draft) -> Option<usize>
 fn limit(text: &[u8], draft: &Draft, room: usize) -> Option<QueryFault>
     ensures { λ r. ⌜ Limited (now (text .entry)) (now (draft .entry)) room r ⌝ }
 {
-    match deep_place(text) {
-        Some(p) => Some(QueryFault::TooDeep(p)),
+    match draft.deep {
+        Some(left) => Some(QueryFault::TooDeep(text.len().saturating_sub(left).saturating_sub(1))),
         None => {
             if draft.count > MOST_LENGTH {
                 Some(QueryFault::TooLong)

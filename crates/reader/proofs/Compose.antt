@@ -28,7 +28,7 @@ use Rattle.reader.specs.declared.draft.Stuck.{Stuck}
 use Rattle.reader.specs.declared.draft.Draft.{Draft}
 use Rattle.reader.specs.declared.table.Tag.the-variants.{Any, Filtered, Then, Along, And, Not, Step}
 use Rattle.reader.specs.Spells.{Takes, Stops}
-use Rattle.reader.specs.Drafts.{part, added, counted, noted, root, joinedTo, reached, closed, labelled, joining, test-drafted, step-axis, step-drafted, path-drafted, or-drafted, and-drafted, atom-drafted, linked, spine-drafted, joins-drafted}
+use Rattle.reader.specs.Drafts.{part, added, counted, noted, entered, exited, root, joinedTo, reached, closed, labelled, joining, enclosed, test-drafted, step-axis, step-drafted, path-drafted, or-drafted, and-drafted, atom-drafted, linked, spine-drafted, joins-drafted}
 use Rattle.reader.specs.Parsed.{Parsed, Read, inside, NameRead, TestRead, StepRead, PathRead, SpineRead, FilterRead, AtomRead, JoinsRead, WordRead, Shut}
 use Rattle.reader.proofs.Moves.{Not as IsNot}
 
@@ -160,6 +160,11 @@ ParsedAtom sheet = Parsed atom-text (atom-drafted sheet) atom done
 abbrev ParsedJoins : List ℕ → Option ℕ → List ℕ → List ℕ → Draft → Draft → Type 0
 ParsedJoins sheet waiting = Parsed joins-text (joins-drafted sheet waiting) (inside done) (inside shut)
 
+-- a filter and the byte that closes it, by the text from the filter on
+enclosed-made : (sheet : List ℕ) (f : OrChain) (byte : ℕ) (inner after end : List ℕ) (old new : Draft) → new ≡ or-drafted sheet f after (entered (length inner) old) → inner ≡ or-text f ++ (byte ∷ end) → after ≡ byte ∷ end → exited new ≡ enclosed (or-text f) (or-drafted sheet f) (byte ∷ end) old
+enclosed-made sheet f byte inner after end old new m i k =
+    ap exited (m ∙ ap (λ (y : List ℕ). or-drafted sheet f y (entered (length inner) old)) k ∙ ap (λ (y : List ℕ). or-drafted sheet f (byte ∷ end) (entered (length y) old)) i)
+
 module _ (sheet : List ℕ) (a : Axis) (text more rest : List ℕ) (old d1 : Draft) (e : text ≡ axis-text a ++ more) (t : Takes axis test text more) (x : ParsedTest sheet more rest (counted old) d1) where
   pub step-bare : IsNot rest 91 → (p : ParsedStep sheet text rest old d1) × (a ≡ step-axis (p .tree))
   step-bare n = (
@@ -179,18 +184,19 @@ module _ (sheet : List ℕ) (a : Axis) (text more rest : List ℕ) (old d1 : Dra
   step-stops-inside inner left h d =
       stops-via axis (inside atom) (λ (fs : List Frame). (bracket, fs)) text inner left (omega (arith, t .falls, x .takes .falls, ap length h)) (to-filter inner h) d
 
-  pub step-stops-open : (inner after : List ℕ) (d2 : Draft) (left : ℕ) → rest ≡ 91 ∷ inner → ParsedFilter sheet inner after d1 d2 → left ≡ length after → IsNot after 93 → Stops axis text left
-  step-stops-open inner after d2 left h f q n =
+  pub step-stops-open : (inner after : List ℕ) (d2 d3 : Draft) (left : ℕ) → rest ≡ 91 ∷ inner → ParsedFilter sheet inner after d2 d3 → left ≡ length after → IsNot after 93 → Stops axis text left
+  step-stops-open inner after d2 d3 left h f q n =
       rw q
       (record { fits = omega (arith, t .falls, x .takes .falls, f .takes .falls, ap length h); halts = λ fs. to-filter inner h fs ∙ f .takes .goes (bracket, fs) ∙ open-bracket fs after n })
 
-  pub step-held : (inner after end : List ℕ) (d2 d3 : Draft) → rest ≡ 91 ∷ inner → ParsedFilter sheet inner after d1 d2 → after ≡ 93 ∷ end → d3 ≡ joinedTo Filtered (root d1) d2 → (p : ParsedStep sheet text end old d3) × (a ≡ step-axis (p .tree))
+  pub step-held : (inner after end : List ℕ) (d2 d3 : Draft) → rest ≡ 91 ∷ inner → ParsedFilter sheet inner after (entered (length inner) d1) d2 → after ≡ 93 ∷ end → d3 ≡ joinedTo Filtered (root d1) (exited d2) → (p : ParsedStep sheet text end old d3) × (a ≡ step-axis (p .tree))
   step-held inner after end d2 d3 h f k m =
-      let r : rest ≡ 91 ∷ (or-text (f .tree) ++ (93 ∷ end)) = h ∙ ap (λ (y : List ℕ). 91 ∷ y) (f .reads ∙ ap (λ (y : List ℕ). or-text (f .tree) ++ y) k) in (
+      let i : inner ≡ or-text (f .tree) ++ (93 ∷ end) = f .reads ∙ ap (λ (y : List ℕ). or-text (f .tree) ++ y) k in
+      let r : rest ≡ 91 ∷ (or-text (f .tree) ++ (93 ∷ end)) = h ∙ ap (λ (y : List ℕ). 91 ∷ y) i in (
         record {
           tree = g.held a (x .tree) (f .tree);
           reads = e ∙ ap (λ (y : List ℕ). axis-text a ++ y) (x .reads ∙ ap (λ (y : List ℕ). test-text (x .tree) ++ y) r) ∙ sym (held-assoc (axis-text a) (test-text (x .tree)) (or-text (f .tree)) end);
-          made = m ∙ ap (joinedTo Filtered (root d1)) (f .made ∙ ap (λ (y : List ℕ). or-drafted sheet (f .tree) y d1) k) ∙ ap (joining Filtered (or-drafted sheet (f .tree) (93 ∷ end))) (x .made ∙ ap (λ (y : List ℕ). test-drafted sheet (x .tree) y (counted old)) r);
+          made = m ∙ ap (joinedTo Filtered (root d1)) (enclosed-made sheet (f .tree) 93 inner after end d1 d2 (f .made) i k) ∙ ap (joining Filtered (enclosed (or-text (f .tree)) (or-drafted sheet (f .tree)) (93 ∷ end))) (x .made ∙ ap (λ (y : List ℕ). test-drafted sheet (x .tree) y (counted old)) r);
           takes = record { falls = omega (arith, t .falls, x .takes .falls, f .takes .falls, ap length h, ap length k); goes = λ fs. to-filter inner h fs ∙ f .takes .goes (bracket, fs) ∙ ap (run (shut (bracket ∷ fs))) k };
         },
         refl,
@@ -256,15 +262,16 @@ atom-along sheet text old new (Err e) m n d = stops-via atom axis (λ (fs : List
 pub parens-stop : (text more : List ℕ) (left : ℕ) → text ≡ 40 ∷ more → Stops (inside atom) more left → Stops atom text left
 parens-stop text more left e d = stops-via atom (inside atom) (λ (fs : List Frame). (paren, fs)) text more left (omega (arith, ap length e)) (λ fs. ap (run (atom fs)) e) d
 
-pub parens-read : (sheet text more rest : List ℕ) (old new : Draft) (r : Result (RefT (List ℕ)) Stuck) → text ≡ 40 ∷ more → ParsedFilter sheet more rest old new → Shut 41 rest r → AtomRead sheet text old new r
-parens-read sheet text more rest old new (Ok end) e f k =
+pub parens-read : (sheet text more rest : List ℕ) (old d1 d2 : Draft) (r : Result (RefT (List ℕ)) Stuck) → text ≡ 40 ∷ more → ParsedFilter sheet more rest (entered (length more) old) d1 → d2 ≡ exited d1 → Shut 41 rest r → AtomRead sheet text old d2 r
+parens-read sheet text more rest old d1 d2 (Ok end) e f m k =
+    let i : more ≡ or-text (f .tree) ++ (41 ∷ now end) = f .reads ∙ ap (λ (y : List ℕ). or-text (f .tree) ++ y) k in
     record {
       tree = parens (f .tree);
-      reads = e ∙ ap (λ (y : List ℕ). 40 ∷ y) (f .reads ∙ ap (λ (y : List ℕ). or-text (f .tree) ++ y) k ∙ sym (append-assoc (or-text (f .tree)) (41 ∷ []) (now end)));
-      made = f .made ∙ ap (λ (y : List ℕ). or-drafted sheet (f .tree) y old) k;
+      reads = e ∙ ap (λ (y : List ℕ). 40 ∷ y) (i ∙ sym (append-assoc (or-text (f .tree)) (41 ∷ []) (now end)));
+      made = m ∙ enclosed-made sheet (f .tree) 41 more rest (now end) old d1 (f .made) i k;
       takes = record { falls = omega (arith, f .takes .falls, ap length e, ap length k); goes = λ fs. ap (run (atom fs)) e ∙ f .takes .goes (paren, fs) ∙ ap (run (shut (paren ∷ fs))) k };
     }
-parens-read sheet text more rest old new (Err x) e f (q, n) =
+parens-read sheet text more rest old d1 d2 (Err x) e f m (q, n) =
     rw q (record { fits = omega (arith, f .takes .falls, ap length e); halts = λ fs. ap (run (atom fs)) e ∙ f .takes .goes (paren, fs) ∙ open-paren fs rest n })
 
 -- after "not("
@@ -279,12 +286,13 @@ module _ (text more inner : List ℕ) (e : text ≡ 110 ∷ more) (w : more ≡ 
   not-stops-open sheet rest old new left f q n =
       rw q (record { fits = omega (arith, t .falls, f .takes .falls, ap length e); halts = λ fs. to-not fs ∙ f .takes .goes (paren, fs) ∙ open-paren fs rest n })
 
-  pub not-read : (sheet rest end : List ℕ) (old d1 d2 : Draft) → ParsedFilter sheet inner rest (counted old) d1 → rest ≡ 41 ∷ end → d2 ≡ reached Not d1 → ParsedAtom sheet text end old d2
+  pub not-read : (sheet rest end : List ℕ) (old d1 d2 : Draft) → ParsedFilter sheet inner rest (entered (length inner) (counted old)) d1 → rest ≡ 41 ∷ end → d2 ≡ reached Not (exited d1) → ParsedAtom sheet text end old d2
   not-read sheet rest end old d1 d2 f k m =
+      let i : inner ≡ or-text (f .tree) ++ (41 ∷ end) = f .reads ∙ ap (λ (y : List ℕ). or-text (f .tree) ++ y) k in
       record {
         tree = negate (f .tree);
-        reads = e ∙ ap (λ (y : List ℕ). 110 ∷ y) (w ∙ ap (λ (y : List ℕ). codes "ot(" ++ y) (f .reads ∙ ap (λ (y : List ℕ). or-text (f .tree) ++ y) k ∙ sym (append-assoc (or-text (f .tree)) (41 ∷ []) end)));
-        made = m ∙ ap (reached Not) (f .made ∙ ap (λ (y : List ℕ). or-drafted sheet (f .tree) y (counted old)) k);
+        reads = e ∙ ap (λ (y : List ℕ). 110 ∷ y) (w ∙ ap (λ (y : List ℕ). codes "ot(" ++ y) (i ∙ sym (append-assoc (or-text (f .tree)) (41 ∷ []) end)));
+        made = m ∙ ap (reached Not) (enclosed-made sheet (f .tree) 41 inner rest end (counted old) d1 (f .made) i k);
         takes = record { falls = omega (arith, t .falls, f .takes .falls, ap length e, ap length k); goes = λ fs. to-not fs ∙ f .takes .goes (paren, fs) ∙ ap (run (shut (paren ∷ fs))) k };
       }
 

@@ -20,21 +20,29 @@ abbrev pub part : Tag → ℕ → ℕ → Part
 part tag i j = record { tag = tag; first = i; second = j }
 
 abbrev pub started : Draft
-started = record { parts = replicate 97 (part First 0 0); used = 1; count = 0; unknown = None }
+started = record { parts = replicate 97 (part First 0 0); used = 1; count = 0; unknown = None; depth = 0; deep = None }
 
 -- a part is written where there is room
 abbrev pub added : Part → Draft → Draft
-added p d = cond (ltb (d .used) 97) (record { parts = set (d .parts) (d .used) p; used = d .used + 1; count = d .count; unknown = d .unknown }) d
+added p d = cond (ltb (d .used) 97) (record { parts = set (d .parts) (d .used) p; used = d .used + 1; count = d .count; unknown = d .unknown; depth = d .depth; deep = d .deep }) d
 
 abbrev pub counted : Draft → Draft
-counted d = record { parts = d .parts; used = d .used; count = cond (leb (d .count) 16) (d .count + 1) (d .count); unknown = d .unknown }
+counted d = record { parts = d .parts; used = d .used; count = cond (leb (d .count) 16) (d .count + 1) (d .count); unknown = d .unknown; depth = d .depth; deep = d .deep }
 
 abbrev pub firstOf : Option ℕ → ℕ → Option ℕ
 firstOf None left = Some left
 firstOf (Some u) left = Some u
 
 abbrev pub noted : ℕ → Draft → Draft
-noted left d = record { parts = d .parts; used = d .used; count = d .count; unknown = firstOf (d .unknown) left }
+noted left d = record { parts = d .parts; used = d .used; count = d .count; unknown = firstOf (d .unknown) left; depth = d .depth; deep = d .deep }
+
+-- "[" or "(", with so many bytes left after it: past the most, the first one is noted
+abbrev pub entered : ℕ → Draft → Draft
+entered left d = record { parts = d .parts; used = d .used; count = d .count; unknown = d .unknown; depth = cond (ltb (d .depth) 8) (d .depth + 1) (d .depth); deep = cond (ltb (d .depth) 8) (d .deep) (firstOf (d .deep) left) }
+
+-- "]" or ")"
+abbrev pub exited : Draft → Draft
+exited d = record { parts = d .parts; used = d .used; count = d .count; unknown = d .unknown; depth = d .depth - 1; deep = d .deep }
 
 -- the place of the part that was written last
 abbrev pub root : Draft → ℕ
@@ -68,11 +76,15 @@ step-axis (held a x f) = a
 abbrev pub joining : Tag → (Draft → Draft) → Draft → Draft
 joining tag further d = joinedTo tag (root d) (further d)
 
+-- what stands between brackets, by its text and the text that follows it
+abbrev pub enclosed : List ℕ → (List ℕ → Draft → Draft) → List ℕ → Draft → Draft
+enclosed text further rest d = exited (further rest (entered (length (text ++ rest)) d))
+
 -- A step drafts what it asks of the element it keeps; a path in a filter is read from an element on.
 abbrev mutual
   pub step-drafted : List ℕ → StepTree → List ℕ → Draft → Draft
   step-drafted sheet (bare a x) rest d = test-drafted sheet x rest (counted d)
-  step-drafted sheet (held a x f) rest d = joining Filtered (or-drafted sheet f (93 ∷ rest)) (test-drafted sheet x (91 ∷ (or-text f ++ (93 ∷ rest))) (counted d))
+  step-drafted sheet (held a x f) rest d = joining Filtered (enclosed (or-text f) (or-drafted sheet f) (93 ∷ rest)) (test-drafted sheet x (91 ∷ (or-text f ++ (93 ∷ rest))) (counted d))
 
   pub path-drafted : List ℕ → PathTree → List ℕ → Draft → Draft
   path-drafted sheet (one s) rest d = reached (Along (step-axis s)) (step-drafted sheet s rest d)
@@ -88,8 +100,8 @@ abbrev mutual
 
   pub atom-drafted : List ℕ → Atom → List ℕ → Draft → Draft
   atom-drafted sheet (along p) rest d = path-drafted sheet p rest d
-  atom-drafted sheet (parens f) rest d = or-drafted sheet f (41 ∷ rest) d
-  atom-drafted sheet (negate f) rest d = reached Not (or-drafted sheet f (41 ∷ rest) (counted d))
+  atom-drafted sheet (parens f) rest d = enclosed (or-text f) (or-drafted sheet f) (41 ∷ rest) d
+  atom-drafted sheet (negate f) rest d = reached Not (enclosed (or-text f) (or-drafted sheet f) (41 ∷ rest) (counted d))
 
 -- a step of the query's own path, joined with the query before it
 abbrev pub linked : Axis → Draft → Draft → Draft

@@ -8,7 +8,9 @@ use crate::draft::Stuck;
 use crate::drafting::add;
 use crate::drafting::close;
 use crate::drafting::count;
+use crate::drafting::enter;
 use crate::drafting::join;
+use crate::drafting::leave;
 use crate::drafting::note;
 use crate::drafting::over;
 use crate::drafting::root;
@@ -124,8 +126,10 @@ fn step<'a>(text: &'a [u8], sheet: &[u8], draft: &mut Draft) -> Result<(Axis, &'
     match rest {
         [b'[', inner @ ..] => {
             let here = root(draft);
+            enter(draft, inner.len());
             let after = filter(inner, sheet, draft)?;
             let end = shut(after, b']')?;
+            leave(draft);
             join(draft, Tag::Filtered, here);
             Ok((axis, end))
         }
@@ -159,14 +163,18 @@ fn atom<'a>(text: &'a [u8], sheet: &[u8], draft: &mut Draft) -> Result<&'a [u8],
 {
     match text {
         [b'(', more @ ..] => {
+            enter(draft, more.len());
             let rest = filter(more, sheet, draft)?;
+            leave(draft);
             shut(rest, b')')
         }
         [b'n', more @ ..] => {
             let inner = word(more, b"ot(")?;
             count(draft);
+            enter(draft, inner.len());
             let rest = filter(inner, sheet, draft)?;
             let end = shut(rest, b')')?;
+            leave(draft);
             over(draft, Tag::Not);
             Ok(end)
         }

@@ -16,6 +16,9 @@ pub const MOST_LENGTH: usize = 16;
 // The most parts of a query of that length.
 pub const MOST_PARTS: usize = 97;
 
+// The most "[" and "(" that are open at once.
+pub const MOST_OPEN: usize = 8;
+
 #[derive(Clone, Copy)]
 pub struct Draft {
     pub parts: [Part; 97],
@@ -25,6 +28,10 @@ pub struct Draft {
     pub count: usize,
     // How many bytes are left from the first unknown name on.
     pub unknown: Option<usize>,
+    // How many "[" and "(" are open, up to the most; once `deep` is noted it says nothing.
+    pub depth: usize,
+    // How many bytes are left after the first "[" or "(" that is one too many.
+    pub deep: Option<usize>,
 }
 
 pub fn start() -> Draft
@@ -40,5 +47,7 @@ pub fn start() -> Draft
         used: 1,
         count: 0,
         unknown: None,
+        depth: 0,
+        deep: None,
     }
 }

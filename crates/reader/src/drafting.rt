@@ -1,9 +1,10 @@
 // What readers do to a draft.
 ghost use mathlib.Core.Path.{_≡_};
 ghost use Prim.Native.Nat.{_-_};
-ghost use Rattle.reader.specs.Drafts.{added, counted, noted, joinedTo, reached, closed};
+ghost use Rattle.reader.specs.Drafts.{added, counted, noted, entered, exited, joinedTo, reached, closed};
 use crate::draft::Draft;
 use crate::draft::MOST_LENGTH;
+use crate::draft::MOST_OPEN;
 use crate::draft::MOST_PARTS;
 use crate::table::Part;
 use crate::table::Tag;
@@ -41,6 +42,27 @@ pub fn note(draft: &mut Draft, left: usize)
         Some(_) => {}
         None => draft.unknown = Some(left),
     }
+}
+
+// A "[" or "(", with so many bytes left after it.
+pub fn enter(draft: &mut Draft, left: usize)
+    ensures { λ _. ⌜ now (draft .exit) ≡ entered left (now (draft .entry)) ⌝ }
+{
+    if draft.depth < MOST_OPEN {
+        draft.depth += 1;
+    } else {
+        match draft.deep {
+            Some(_) => {}
+            None => draft.deep = Some(left),
+        }
+    }
+}
+
+// A "]" or ")".
+pub fn leave(draft: &mut Draft)
+    ensures { λ _. ⌜ now (draft .exit) ≡ exited (now (draft .entry)) ⌝ }
+{
+    draft.depth = draft.depth.saturating_sub(1);
 }
 
 // Joins the part at `first` with the last one.

@@ -2,13 +2,14 @@ use borrow.Author.Needs.{needs}
 use mathlib.Core.Path.{_∙_, ap}
 use mathlib.Core.List.{List, _++_}
 use Prim.Native.Nat.{ℕ}
+use lib.ListN.{length}
 use Rattle.std.proofs.shelf.Results.{err-from-errBy}
 use Rattle.grammar.specs.Machine.{axis, test}
 use Rattle.grammar.specs.Machine.{Frame}
 use Rattle.grammar.specs.Joins.{word}
 use Rattle.reader.specs.declared.descent.Word.{Word}
-use Rattle.reader.specs.declared.table.Tag.the-variants.{Filtered, Then, And}
-use Rattle.reader.specs.Drafts.{joinedTo}
+use Rattle.reader.specs.declared.table.Tag.the-variants.{Filtered, Then, And, Not}
+use Rattle.reader.specs.Drafts.{entered, root, joinedTo, reached}
 use Rattle.reader.specs.Parsed.{joinOf}
 use Rattle.reader.proofs.Moves.{front}
 use Rattle.reader.proofs.Compose.{from-draft, stops-via, step-bare, step-stops-inside, step-stops-open, step-held, path-one, path-stops, path-slash, atom-along, parens-stop, parens-read, not-stops, not-stops-open, not-read, not-word-stops, filter-stops, filter-read, joins-end, joins-word-stops, joins-atom-stops, joins-and, joins-or}
@@ -36,11 +37,11 @@ atom-returns-in-Break-end t c =
 
 pub atom-returns-in-Continue-rest : need.atom-returns-in-Continue-rest
 atom-returns-in-Continue-rest t c =
-    parens-read (c .args .sheet .now) (c .args .text .now) _ (c .in-Continue-rest .rest .now) _ _ (c .shut .result) (front (c .args .text .now) 40 (search needs) (search needs)) (c .in-Continue-rest .ensures tt) (c .shut .ensures)
+    parens-read (c .args .sheet .now) (c .args .text .now) _ (c .in-Continue-rest .rest .now) _ _ _ (c .shut .result) (front (c .args .text .now) 40 (search needs) (search needs)) (from-draft (c .enter .ensures) (c .in-Continue-rest .ensures tt)) (c .leave .ensures) (c .shut .ensures)
 
 pub atom-returns-in-Continue-end : need.atom-returns-in-Continue-end
 atom-returns-in-Continue-end t c =
-    not-read (c .args .text .now) _ (c .in-Continue-inner .inner .now) (front (c .args .text .now) 110 (search needs) (search needs)) (c .in-Continue-inner .ensures tt .0) (c .in-Continue-inner .ensures tt .1) (c .args .sheet .now) (c .in-Continue-rest-2 .rest .now) (c .in-Continue-end .end .now) (c .args .draft .now) _ _ (from-draft (c .count .ensures) (c .in-Continue-rest-2 .ensures tt)) (c .in-Continue-end .ensures tt) (c .over .ensures)
+    not-read (c .args .text .now) _ (c .in-Continue-inner .inner .now) (front (c .args .text .now) 110 (search needs) (search needs)) (c .in-Continue-inner .ensures tt .0) (c .in-Continue-inner .ensures tt .1) (c .args .sheet .now) (c .in-Continue-rest-2 .rest .now) (c .in-Continue-end .end .now) (c .args .draft .now) _ _ (from-draft (c .enter-in-110 .ensures ∙ ap (entered (length (c .in-Continue-inner .inner .now))) (c .count .ensures)) (c .in-Continue-rest-2 .ensures tt)) (c .in-Continue-end .ensures tt) (c .over .ensures ∙ ap (reached Not) (c .leave-in-110 .ensures))
 
 pub atom-returns-in-rest : need.atom-returns-in-rest
 atom-returns-in-rest t c = atom-along (c .args .sheet .now) (c .args .text .now) _ _ (c .path .result) (search needs) (search needs) (c .path .ensures)
@@ -115,12 +116,12 @@ pub step-returns-in-Break-end : need.step-returns-in-Break-end
 step-returns-in-Break-end t c =
     let p = err-from-errBy (c .from-residual-in-Break-end .result) (c .from-residual-in-Break-end .ensures .1) in
     let n = c .in-Break-end .ensures tt in
-    rw (p .1, p .2) (step-stops-open (c .args .sheet .now) (c .in-Continue-axis .axis) (c .args .text .now) (c .in-Continue-axis .more .now) (c .in-Continue-rest .rest .now) (c .args .draft .now) (c .test .last .draft) (c .in-Continue-axis .ensures tt .0) (c .in-Continue-axis .ensures tt .1) (from-draft (c .count .ensures) (c .in-Continue-rest .ensures tt)) _ (c .in-Continue-after .after .now) _ _ (front (c .in-Continue-rest .rest .now) 91 (search needs) (search needs)) (c .in-Continue-after .ensures tt) (n .0) (n .1))
+    rw (p .1, p .2) (step-stops-open (c .args .sheet .now) (c .in-Continue-axis .axis) (c .args .text .now) (c .in-Continue-axis .more .now) (c .in-Continue-rest .rest .now) (c .args .draft .now) (c .test .last .draft) (c .in-Continue-axis .ensures tt .0) (c .in-Continue-axis .ensures tt .1) (from-draft (c .count .ensures) (c .in-Continue-rest .ensures tt)) _ (c .in-Continue-after .after .now) _ _ _ (front (c .in-Continue-rest .rest .now) 91 (search needs) (search needs)) (c .in-Continue-after .ensures tt) (n .0) (n .1))
 
 pub step-returns-in-Continue-end : need.step-returns-in-Continue-end
 step-returns-in-Continue-end t c =
-    step-held (c .args .sheet .now) (c .in-Continue-axis .axis) (c .args .text .now) (c .in-Continue-axis .more .now) (c .in-Continue-rest .rest .now) (c .args .draft .now) (c .test .last .draft) (c .in-Continue-axis .ensures tt .0) (c .in-Continue-axis .ensures tt .1) (from-draft (c .count .ensures) (c .in-Continue-rest .ensures tt)) _ (c .in-Continue-after .after .now) (c .in-Continue-end .end .now) _ _ (front (c .in-Continue-rest .rest .now) 91 (search needs) (search needs)) (c .in-Continue-after .ensures tt) (c .in-Continue-end .ensures tt)
-    (c .join .ensures ∙ ap (λ (l : ℕ). joinedTo Filtered l (c .filter .last .draft)) (c .root-here .ensures))
+    step-held (c .args .sheet .now) (c .in-Continue-axis .axis) (c .args .text .now) (c .in-Continue-axis .more .now) (c .in-Continue-rest .rest .now) (c .args .draft .now) (c .test .last .draft) (c .in-Continue-axis .ensures tt .0) (c .in-Continue-axis .ensures tt .1) (from-draft (c .count .ensures) (c .in-Continue-rest .ensures tt)) _ (c .in-Continue-after .after .now) (c .in-Continue-end .end .now) _ _ (front (c .in-Continue-rest .rest .now) 91 (search needs) (search needs)) (from-draft (c .enter .ensures) (c .in-Continue-after .ensures tt)) (c .in-Continue-end .ensures tt)
+    (c .join .ensures ∙ ap (λ (l : ℕ). joinedTo Filtered l (c .leave .last .draft)) (c .root-here .ensures) ∙ ap (joinedTo Filtered (root (c .test .last .draft))) (c .leave .ensures))
 
 pub step-returns-in-rest : need.step-returns-in-rest
 step-returns-in-rest t c =
