@@ -1,4 +1,6 @@
 // What holds of the grammar of query texts. The functions here have nothing to compute: each states a theorem.
+#![tactic(auto)]
+
 ghost use Rattle.grammar.specs.Theorems.{QueryOrOnePlace, Unambiguous};
 
 // Every text is a query or breaks the grammar at one place.

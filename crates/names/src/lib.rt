@@ -1,4 +1,6 @@
 // The names sheet: a run of names, each ended by a line end. The first name has label 1, the next 2.
+#![tactic(auto)]
+
 ghost use Rattle.std.specs.Prelude.{◌≡◌, ℕ, Result};
 ghost use Rattle.model.specs.Names.{is_letter, is_name_byte};
 ghost use Rattle.names.specs.Sheet.{label_in, line_ends, rows, first_repeat, Checked};

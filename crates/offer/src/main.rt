@@ -1,5 +1,7 @@
 // For the offer writer: reads the names sheet, then query texts from standard input, one a line, and says of each what it
 // is read as, part by part, or what is wrong with it and where.
+#![tactic(auto)]
+
 use model::axis::Axis;
 use model::fault::Fault;
 use names::NamesFault;

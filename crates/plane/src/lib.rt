@@ -1,4 +1,6 @@
 // What the pre/post plane and the axes mean on every lawful receipt: theorems alone, each the contract of a function.
+#![tactic(auto)]
+
 ghost use Rattle.plane.specs.Steady.{RelationsStay};
 ghost use Rattle.plane.specs.Tree.{PlaneIsTree};
 

@@ -1,4 +1,6 @@
 // Checked queries: a query text read into a table of parts, or the refusal that names what is wrong.
+#![tactic(auto)]
+
 ghost use Rattle.query.specs.Answers.{Answered};
 ghost use Rattle.std.specs.Prelude.{◌≤◌, length};
 ghost use Rattle.query.specs.Limits.{Drafted, Limited, Copied};

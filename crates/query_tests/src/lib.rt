@@ -1,4 +1,6 @@
 // Names sheets and query texts on either side of each limit, and texts that break the grammar at each kind of place.
+#![tactic(auto)]
+
 #[cfg(test)]
 mod tests {
     use compiler::{QueryFault, compile};

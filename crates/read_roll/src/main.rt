@@ -1,4 +1,6 @@
 // Reads rolls from standard input, one a line in hexadecimal, and tells the receipt of each or why it is refused.
+#![tactic(auto)]
+
 use model::fault::Fault;
 use report::print_refusal;
 use roll::Roll;

@@ -1,4 +1,6 @@
 // Examples at the boundaries of receipts and rolls, run on the built code.
+#![tactic(auto)]
+
 #[cfg(test)]
 mod tests {
     use model::action::Action;

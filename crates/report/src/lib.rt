@@ -1,4 +1,6 @@
 // How the programs tell of refusals.
+#![tactic(auto)]
+
 ghost use Rattle.std.specs.Prelude.{◌≡◌, Some};
 ghost use Rattle.report.specs.Layers.{layer_text};
 ghost use Rattle.report.specs.Told.{fault_text};

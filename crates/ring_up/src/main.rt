@@ -1,4 +1,6 @@
 // Rings up receipts from the lines of a task, prints each step, and writes their rolls.
+#![tactic(auto)]
+
 use model::action::Action;
 use model::fault::Fault;
 use report::print_refusal;

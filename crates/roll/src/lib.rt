@@ -1,4 +1,6 @@
 // Rolls: the bytes by which a receipt is kept on paper, and the store over the bytes of one.
+#![tactic(auto)]
+
 ghost use Rattle.std.specs.Prelude.{◌≡◌, ◌≤◌};
 ghost use Rattle.model.specs.Receipt.{count_of};
 ghost use Rattle.model.specs.Rules.{Ends, Ranged, Stepped, lawfully};

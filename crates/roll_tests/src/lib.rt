@@ -1,4 +1,6 @@
 // Examples of reading rolls: the roll store beside the till's store, and damaged rolls.
+#![tactic(auto)]
+
 #[cfg(test)]
 mod tests {
     use model::action::Action;

@@ -1,3 +1,5 @@
+#![tactic(auto)]
+
 ghost use Rattle.std.specs.Prelude.{◌≡◌, ℕ, ◌+◌, ◌<◌, ◌≤◌, IfSome, Decides};
 ghost use Rattle.model.specs.Receipt.{Receipt, Lawful, count_of, level_at, label_of, level_of, parent_of, first_child_of, next_sibling_of, previous_sibling_of, innermost, last_inside};
 

@@ -1,4 +1,6 @@
 // Query tables: parts in lent places, and the one lawful query that a table reads as, whatever it holds.
+#![tactic(auto)]
+
 ghost use Rattle.std.specs.Prelude.{◌≡◌, ◌+◌, ◌≤◌, true, length};
 ghost use Rattle.model.specs.Limits.{most_length, places};
 ghost use Rattle.model.specs.Query.{path_length};

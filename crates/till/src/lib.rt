@@ -1,4 +1,6 @@
 // The till's store: a receipt as it is rung up, with one record of links for each element.
+#![tactic(auto)]
+
 ghost use Rattle.std.specs.Prelude.{◌≡◌, ◌≤◌, length};
 ghost use Rattle.model.specs.Receipt.{count_of};
 ghost use Rattle.model.specs.Rules.{Ends, Ranged, Stepped, lawfully};

@@ -1,4 +1,6 @@
 // The laws of selection and verdicts. Each function stands for one law: its contract names the statement, and there is nothing to compute.
+#![tactic(auto)]
+
 ghost use Rattle.verdicts.specs.Agree.{ShowAndAuditAgree};
 ghost use Rattle.verdicts.specs.Laws.{FormulaIsSelection, KindsKeepTheirLaws};
 ghost use Rattle.verdicts.specs.Sound.{VerdictsAreSound};
