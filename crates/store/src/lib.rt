@@ -53,8 +53,8 @@ pub struct Place {
 
 // The level of an element that is there.
 fn level_at<S: Store>(s: &S, rank: usize) -> u8
-    requires { rank < count_of (receipt s.now) }
-    ensures { result ≡ level_at (receipt s.now) rank }
+    requires { rank < count_of (S.receipt s.now) }
+    ensures { result ≡ level_at (S.receipt s.now) rank }
 {
     match s.level(rank) {
         Some(v) => v,
@@ -64,8 +64,8 @@ fn level_at<S: Store>(s: &S, rank: usize) -> u8
 
 // The place of the next opening's element, found from the last element upwards. On an empty or an ended receipt it has no relatives.
 pub fn next_place<S: Store>(s: &S) -> Place
-    ensures parent { result.parent ≡ innermost (receipt s.now) }
-    ensures previous { result.previous ≡ last_inside (receipt s.now) }
+    ensures parent { result.parent ≡ innermost (S.receipt s.now) }
+    ensures previous { result.previous ≡ last_inside (S.receipt s.now) }
 {
     let d = s.depth();
     if d == 0 {
