@@ -26,6 +26,6 @@ returns-in-Some-repeat c =
 pub returns-in-None-repeat : goal.returns-in-None-repeat
 returns-in-None-repeat c =
     let t = c.args.sheet.now in
-    let n = c.line-ends-ends.result in
-    let a = accepted t n (record { bytes = omega arith; ends = omega arith }) c.in-None.ensures c.in-None-repeat.ensures c.line-ends-ends.ensures in
+    let n = c.line_ends-ends.result in
+    let a = accepted t n (record { bytes = omega arith; ends = omega arith }) c.in-None.ensures c.in-None-repeat.ensures c.line_ends-ends.ensures in
     record { answers = a; only = only t (Ok n) a }

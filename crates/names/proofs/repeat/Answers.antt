@@ -1,7 +1,7 @@
 use Rattle.std.proofs.Common.{◌<◌, length, is_some, sym, ap, ◌∙◌, arith}
 use Rattle.names.proofs.Rows.{seen_in_row, seen_row, seen_repeat, seen_all}
 use Rattle.names.proofs.repeat.Goals as goal
-use Rattle.names.proofs.repeat.Goals.{then-b-eq-LINE-END+else-is-some, else-b-eq-LINE-END}
+use Rattle.names.proofs.repeat.Goals.{then-b-eq-LINE_END+else-is_some, else-b-eq-LINE_END}
 
 pub returns-then-is-some : goal.returns-then-is-some
 returns-then-is-some c =
@@ -15,9 +15,9 @@ loop-i-preserved c =
     let l = c.loop-i in
     let t = c.args.sheet.now in
     let h : l.i < length t = omega arith in
-    elim c.if-b-eq-LINE-END.branch [
-      | then-b-eq-LINE-END+else-is-some w ↦ seen_row t l.start c.if-b-eq-LINE-END.start l.i h w.if-b-eq-LINE-END.true (sym (ap is_some w.label.ensures) ∙ sym w.is-some.ensures ∙ w.if-is-some.false) w.start-is l.invariant
-      | else-b-eq-LINE-END w ↦ seen_in_row t l.start c.if-b-eq-LINE-END.start l.i h w.if-b-eq-LINE-END.false w.start-is l.invariant
+    elim c.if-b-eq-LINE_END.branch [
+      | then-b-eq-LINE_END+else-is_some w ↦ seen_row t l.start c.if-b-eq-LINE_END.start l.i h w.if-b-eq-LINE-END.true (sym (ap is_some w.label.ensures) ∙ sym w.is-some.ensures ∙ w.if-is-some.false) w.start-is l.invariant
+      | else-b-eq-LINE_END w ↦ seen_in_row t l.start c.if-b-eq-LINE_END.start l.i h w.if-b-eq-LINE-END.false w.start-is l.invariant
     ]
 
 pub returns : goal.returns

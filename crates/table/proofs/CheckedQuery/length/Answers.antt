@@ -6,4 +6,4 @@ use Rattle.table.proofs.CheckedQuery.length.Goals as goal
 pub returns : goal.returns
 returns c =
     let q = c.args.self.now in
-    record { value = sym q.decreases; some = omega (arith, q.decreases, path_some (reads_as q)); bound = q.short }
+    record { value = sym q.measured; some = omega (arith, q.measured, path_some (reads_as q)); bound = q.short }

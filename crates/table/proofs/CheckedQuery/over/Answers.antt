@@ -12,8 +12,8 @@ lawful table q e = subst LawfulQuery (sym e) (every_table_is_lawful table)
 pub returns : goal.returns
 returns c =
     let table = c.args.table.now in
-    let e : reads_as c.of-parts.result ≡ checked_reading table = c.of-parts.ensures ∙ fits table c.in-Some.n c.in-Some-lawful-length.query-length c.in-Some-lawful-length.ensures c.in-Some.ensures.number in
-    record { reads = e; lawful = lawful table (reads_as c.of-parts.result) e; every = every_table_is_lawful; past = past_the_query_nothing_counts }
+    let e : reads_as c.of_parts.result ≡ checked_reading table = c.of_parts.ensures ∙ fits table c.in-Some.n c.in-Some-lawful_length.query_length c.in-Some-lawful_length.ensures c.in-Some.ensures.number in
+    record { reads = e; lawful = lawful table (reads_as c.of_parts.result) e; every = every_table_is_lawful; past = past_the_query_nothing_counts }
 
 pub returns-in-default : goal.returns-in-default
 returns-in-default c =

@@ -6,4 +6,4 @@ use Rattle.table.proofs.CheckedQuery.parts.Goals as goal
 pub returns : goal.returns
 returns c =
     let q = c.args.self.now in
-    record { value = refl; few = omega (arith, q.few, q.decreases); each = part_by_part (parts_of q) q.whole q.step }
+    record { value = refl; few = omega (arith, q.few, q.measured); each = part_by_part (parts_of q) q.whole q.step }
