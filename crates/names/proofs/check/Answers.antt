@@ -4,10 +4,10 @@ use Rattle.names.specs.Sheet.{Checked}
 use Rattle.names.proofs.Sheets.{accepted, repeats, broken_at, only}
 use Rattle.names.proofs.check.Goals as goal
 
-pub returns-then-sheet-gt-MOST-SHEET : goal.returns-then-sheet-gt-MOST-SHEET
-returns-then-sheet-gt-MOST-SHEET c =
+pub returns-then-sheet-gt-MOST_SHEET : goal.returns-then-sheet-gt-MOST_SHEET
+returns-then-sheet-gt-MOST_SHEET c =
     let t = c.args.sheet.now in
-    let a : Checked t (Err TooMuch) = λ s. ⊎_elim (λ h. omega (arith, s.bytes)) (λ h. omega (arith, s.ends, h.1)) c.then-sheet-gt-MOST-SHEET.either in
+    let a : Checked t (Err TooMuch) = λ s. ⊎_elim (λ h. omega (arith, s.bytes)) (λ h. omega (arith, s.ends, h.1)) c.then-sheet-gt-MOST_SHEET.either in
     record { answers = a; only = only t (Err TooMuch) a }
 
 pub returns-in-Some : goal.returns-in-Some

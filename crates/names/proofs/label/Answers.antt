@@ -29,12 +29,12 @@ loop-i-preserved c =
           let d = slice_eq-Decides Decides-eqb (between l.start l.i t) n w.eq.result w.eq.ensures in (
             omega (arith, w.start-is),
             omega (arith, w.label-is),
-            label_after_row l.label c.if-b-eq-LINE_END.label l.start c.if-b-eq-LINE_END.start l.i t n h w.if-b-eq-LINE-END.true (λ e. both_ways w.eq.result w.if-eq.false (d.1 e)) w.label-is w.start-is ∙ l.invariant.2,
+            label_after_row l.label c.if-b-eq-LINE_END.label l.start c.if-b-eq-LINE_END.start l.i t n h w.if-b-eq-LINE_END.true (λ e. both_ways w.eq.result w.if-eq.false (d.1 e)) w.label-is w.start-is ∙ l.invariant.2,
           )
       | else-b-eq-LINE_END w ↦ (
         omega (arith, w.start-is),
         omega (arith, w.label-is),
-        label_in_row l.label c.if-b-eq-LINE_END.label l.start c.if-b-eq-LINE_END.start l.i t n l.invariant.0 h w.if-b-eq-LINE-END.false w.label-is w.start-is ∙ l.invariant.2,
+        label_in_row l.label c.if-b-eq-LINE_END.label l.start c.if-b-eq-LINE_END.start l.i t n l.invariant.0 h w.if-b-eq-LINE_END.false w.label-is w.start-is ∙ l.invariant.2,
       )
     ]
 

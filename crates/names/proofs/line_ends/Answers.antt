@@ -9,8 +9,8 @@ loop-b-preserved c =
     let t = c.args.sheet.now in
     let h : l.b-index < length t = omega arith in
     elim c.if-b-eq-LINE_END.branch [
-      | then-b-eq-LINE_END w ↦ (omega (arith, w.n-is), omega (arith, w.n-is, ends_more t l.b-index h w.if-b-eq-LINE-END.true))
-      | else-b-eq-LINE_END w ↦ (omega (arith, w.n-is), omega (arith, w.n-is, ends_same t l.b-index h w.if-b-eq-LINE-END.false))
+      | then-b-eq-LINE_END w ↦ (omega (arith, w.n-is), omega (arith, w.n-is, ends_more t l.b-index h w.if-b-eq-LINE_END.true))
+      | else-b-eq-LINE_END w ↦ (omega (arith, w.n-is), omega (arith, w.n-is, ends_same t l.b-index h w.if-b-eq-LINE_END.false))
     ]
 
 pub returns : goal.returns

@@ -6,8 +6,8 @@ use Rattle.store.proofs.next_place.Goals as goal
 pub returns-then-d-eq0 : goal.returns-then-d-eq0
 returns-then-d-eq0 g c = let s = no_place (g.S.Store.receipt c.args.s.now) (omega arith) in record { parent = s.0; previous = s.1 }
 
-pub overflow-sub-at : goal.overflow-sub-at
-overflow-sub-at g c = let h = some_element (g.S.Store.receipt c.args.s.now) (g.S.Store.lawful c.args.s.now) (omega arith) in omega arith
+pub overflow_sub-at : goal.overflow_sub-at
+overflow_sub-at g c = let h = some_element (g.S.Store.receipt c.args.s.now) (g.S.Store.lawful c.args.s.now) (omega arith) in omega arith
 
 pub up-preserved : goal.up-preserved
 up-preserved g c =

@@ -3,8 +3,8 @@ use Rattle.table.proofs.Made.{cut}
 use Rattle.table.proofs.Whole.{reading_stays}
 use Rattle.table.proofs.CheckedQuery.of_parts.Goals as goal
 
-pub invariant-of-result : goal.invariant-of-result
-invariant-of-result c =
+pub invariant_of-result : goal.invariant_of-result
+invariant_of-result c =
     let q = cut c.args.table.now c.args.n (c.args.n - 0) c.args.query-length (omega arith) c.requires.ends c.requires.fits in
     (q.whole, (q.step, (q.decreases, (c.requires.fits.short, (q.labelled, (q.few, tt))))))
 

@@ -15,15 +15,15 @@ returns c =
     let e : reads_as c.of_parts.result ≡ checked_reading table = c.of_parts.ensures ∙ fits table c.in-Some.n c.in-Some-lawful_length.query_length c.in-Some-lawful_length.ensures c.in-Some.ensures.number in
     record { reads = e; lawful = lawful table (reads_as c.of_parts.result) e; every = every_table_is_lawful; past = past_the_query_nothing_counts }
 
-pub returns-in-default : goal.returns-in-default
-returns-in-default c =
+pub returns-in_default : goal.returns-in_default
+returns-in_default c =
     let table = c.args.table.now in
-    let e : reads_as c.itself.result ≡ checked_reading table = c.itself.ensures ∙ sym c.in-default.ensures in
+    let e : reads_as c.itself.result ≡ checked_reading table = c.itself.ensures ∙ sym c.in_default.ensures in
     record { reads = e; lawful = lawful table (reads_as c.itself.result) e; every = every_table_is_lawful; past = past_the_query_nothing_counts }
 
-pub returns-in-default-lawful-length : goal.returns-in-default-lawful-length
-returns-in-default-lawful-length c =
+pub returns-in_default-lawful_length : goal.returns-in_default-lawful_length
+returns-in_default-lawful_length c =
     let table = c.args.table.now in
-    let q = c.itself-in-default-lawful-length in
-    let e : reads_as q.result ≡ checked_reading table = q.ensures ∙ sym c.in-default-lawful-length.ensures in
+    let q = c.itself-in_default-lawful_length in
+    let e : reads_as q.result ≡ checked_reading table = q.ensures ∙ sym c.in_default-lawful_length.ensures in
     record { reads = e; lawful = lawful table (reads_as q.result) e; every = every_table_is_lawful; past = past_the_query_nothing_counts }

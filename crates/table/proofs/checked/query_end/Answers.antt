@@ -8,5 +8,5 @@ returns-then-table-eq0 c = not_there c.args.table.now (omega arith)
 pub returns-then-last-table : goal.returns-then-last-table
 returns-then-last-table c = ⊎_elim (λ h. not_there c.args.table.now h) (λ h. too_far c.args.table.now h.1) c.then-last-table.either
 
-pub returns-in-default : goal.returns-in-default
-returns-in-default c = not_a_step c.args.table.now (omega arith) (search rules)
+pub returns-in_default : goal.returns-in_default
+returns-in_default c = not_a_step c.args.table.now (omega arith) (search rules)

@@ -5,8 +5,8 @@ use Rattle.names.specs.Labels.{InRange, names_among}
 use Rattle.names.specs.Ranged.{among}
 use Rattle.names.proofs.sheet.read.SheetLookup.label.Goals as goal
 
-pub overflow-cast-result : goal.overflow-cast-result
-overflow-cast-result c =
+pub overflow_cast-result : goal.overflow_cast-result
+overflow_cast-result c =
     let s = c.args.self.now in
     let t = s.bytes.now in
     let few = subst (λ (f : Option NamesFault). names_among f t ≤ most_names) c.in-None.is s.few in
