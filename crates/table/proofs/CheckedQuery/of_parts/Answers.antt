@@ -5,7 +5,7 @@ use Rattle.table.proofs.CheckedQuery.of_parts.Goals as goal
 
 pub invariant_of-result : goal.invariant_of-result
 invariant_of-result c =
-    let q = cut c.args.table.now c.args.n (c.args.n - 0) c.args.query-length (omega arith) c.requires.ends c.requires.fits in
+    let q = cut c.args.table.now c.args.n (c.args.n - 0) c.args.query_length (omega arith) c.requires.ends c.requires.fits in
     (q.whole, (q.step, (q.decreases, (c.requires.fits.short, (q.labelled, (q.few, tt))))))
 
 pub returns : goal.returns

@@ -10,5 +10,5 @@ overflow_cast-result c =
     let s = c.args.self.now in
     let t = s.bytes.now in
     let few = subst (λ (f : Option NamesFault). names_among f t ≤ most_names) c.in-None.is s.few in
-    let r = subst InRange (sym c.label-in.ensures ∙ c.in-Some-label-in.is) (among None t c.args.name.now few) in
+    let r = subst InRange (sym c.label.ensures ∙ c.in-Some-label.is) (among None t c.args.name.now few) in
     omega (arith, r.1)
