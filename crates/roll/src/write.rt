@@ -9,7 +9,7 @@ use store::Store;
 
 // How many bytes the roll of the store's receipt has.
 pub fn roll_length<S: Store>(store: &S) -> usize
-    ensures { result ≡ roll_length (count_of (receipt store.now)) }
+    ensures { result ≡ roll_length (count_of (S.receipt store.now)) }
 {
     HEADER_LENGTH + 2 * store.count()
 }
@@ -43,8 +43,8 @@ fn header(depth: u8, count: usize) -> [u8; HEADER_LENGTH]
 
 // The level byte of an element that is there.
 fn level_byte<S: Store>(store: &S, rank: usize) -> u8
-    requires { rank < count_of (receipt store.now) }
-    ensures { result ≡ level_at (receipt store.now) rank }
+    requires { rank < count_of (S.receipt store.now) }
+    ensures { result ≡ level_at (S.receipt store.now) rank }
 {
     match store.level(rank) {
         Some(level) => level,
@@ -54,8 +54,8 @@ fn level_byte<S: Store>(store: &S, rank: usize) -> u8
 
 // The label byte of an element that is there.
 fn label_byte<S: Store>(store: &S, rank: usize) -> u8
-    requires { rank < count_of (receipt store.now) }
-    ensures { result ≡ label_at (receipt store.now) rank }
+    requires { rank < count_of (S.receipt store.now) }
+    ensures { result ≡ label_at (S.receipt store.now) rank }
 {
     match store.label(rank) {
         Some(label) => label as u8,
@@ -65,9 +65,9 @@ fn label_byte<S: Store>(store: &S, rank: usize) -> u8
 
 // The roll's byte at a place.
 fn roll_byte<S: Store>(store: &S, head: &[u8; HEADER_LENGTH], at: usize) -> u8
-    requires head { head.now ≡ headerBytes (receipt store.now).depth (count_of (receipt store.now)) }
-    requires at { at < roll_length (count_of (receipt store.now)) }
-    ensures { result ≡ slice_index (roll_of (receipt store.now)) at }
+    requires head { head.now ≡ headerBytes (S.receipt store.now).depth (count_of (S.receipt store.now)) }
+    requires at { at < roll_length (count_of (S.receipt store.now)) }
+    ensures { result ≡ slice_index (roll_of (S.receipt store.now)) at }
 {
     let n = store.count();
     if at < HEADER_LENGTH {
@@ -83,8 +83,8 @@ fn roll_byte<S: Store>(store: &S, head: &[u8; HEADER_LENGTH], at: usize) -> u8
 
 // Writes the roll and answers its length. Memory past the roll stays as it is, and all of it where it is too short.
 pub fn write_roll<S: Store>(store: &S, memory: &mut [u8]) -> Result<usize, RollFault>
-    ensures answers { result ≡ writing (receipt store.now) memory.old }
-    ensures leaves { memory.new ≡ memory_after (receipt store.now) memory.old }
+    ensures answers { result ≡ writing (S.receipt store.now) memory.old }
+    ensures leaves { memory.new ≡ memory_after (S.receipt store.now) memory.old }
     ensures bound { IfOk result (λ n. n ≤ length memory.old) }
 {
     let length = roll_length(store);

@@ -9,8 +9,8 @@ loop-at-preserved c =
     let r = receipt_of c.args.self.now in
     nearest_past r.elements (level_at r c.args.rank) c.loop-at.at c.loop-at-test.true (λ e. omega arith) ∙ c.loop-at.invariant
 
-pub returns-then-level-at-level : goal.returns-then-level-at-level
-returns-then-level-at-level c =
+pub returns-then-level_at-level : goal.returns-then-level_at-level
+returns-then-level_at-level c =
     let r = receipt_of c.args.self.now in
     sym (nearest_here r.elements (level_at r c.args.rank) c.loop-at.at c.loop-at-test.true (omega arith)) ∙ c.loop-at.invariant
 

@@ -9,12 +9,12 @@ returns-then-next-self c =
     let n = c.args.self.now.counted in
     record { value = sym (no_child (receipt_of c.args.self.now) (held_lawful c.args.self.now) c.args.rank (omega arith) (λ h. absurd (omega arith))); bound = tt }
 
-pub returns-then-level-at : goal.returns-then-level-at
-returns-then-level-at c =
+pub returns-then-level_at : goal.returns-then-level_at
+returns-then-level_at c =
     let n = c.args.self.now.counted in
     record { value = sym (child_next (receipt_of c.args.self.now) (held_lawful c.args.self.now) c.args.rank (omega arith) (omega arith)); bound = (omega arith, omega arith) }
 
-pub returns-else-level-at : goal.returns-else-level-at
-returns-else-level-at c =
+pub returns-else-level_at : goal.returns-else-level_at
+returns-else-level_at c =
     let n = c.args.self.now.counted in
     record { value = sym (no_child (receipt_of c.args.self.now) (held_lawful c.args.self.now) c.args.rank (omega arith) (λ h. omega arith)); bound = tt }

@@ -7,17 +7,17 @@ use Rattle.roll.proofs.RollStore.next_sibling.Goals as goal
 pub returns-then-at-self : goal.returns-then-at-self
 returns-then-at-self c =
     let n = c.args.self.now.counted in
-    let s = c.next-no_deeper-at.ensures in
-    record { value = sym (next_none (receipt_of c.args.self.now) (held_lawful c.args.self.now) c.args.rank c.next-no_deeper-at.result s.after (omega arith) s.passes (λ h. absurd (omega arith))); bound = tt }
+    let s = c.next_no_deeper-at.ensures in
+    record { value = sym (next_none (receipt_of c.args.self.now) (held_lawful c.args.self.now) c.args.rank c.next_no_deeper-at.result s.after (omega arith) s.passes (λ h. absurd (omega arith))); bound = tt }
 
-pub returns-then-level-at : goal.returns-then-level-at
-returns-then-level-at c =
+pub returns-then-level_at : goal.returns-then-level_at
+returns-then-level_at c =
     let n = c.args.self.now.counted in
-    let s = c.next-no_deeper-at.ensures in
-    record { value = sym (next_found (receipt_of c.args.self.now) (held_lawful c.args.self.now) c.args.rank c.next-no_deeper-at.result s.after (omega arith) s.passes (omega arith)); bound = (s.after, omega arith) }
+    let s = c.next_no_deeper-at.ensures in
+    record { value = sym (next_found (receipt_of c.args.self.now) (held_lawful c.args.self.now) c.args.rank c.next_no_deeper-at.result s.after (omega arith) s.passes (omega arith)); bound = (s.after, omega arith) }
 
-pub returns-else-level-at : goal.returns-else-level-at
-returns-else-level-at c =
+pub returns-else-level_at : goal.returns-else-level_at
+returns-else-level_at c =
     let n = c.args.self.now.counted in
-    let s = c.next-no_deeper-at.ensures in
-    record { value = sym (next_none (receipt_of c.args.self.now) (held_lawful c.args.self.now) c.args.rank c.next-no_deeper-at.result s.after (omega arith) s.passes (λ h. let x = s.stops h in omega arith)); bound = tt }
+    let s = c.next_no_deeper-at.ensures in
+    record { value = sym (next_none (receipt_of c.args.self.now) (held_lawful c.args.self.now) c.args.rank c.next_no_deeper-at.result s.after (omega arith) s.passes (λ h. let x = s.stops h in omega arith)); bound = tt }

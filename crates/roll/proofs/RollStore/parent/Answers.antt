@@ -7,5 +7,5 @@ use Rattle.roll.proofs.RollStore.parent.Goals as goal
 pub returns-then-rank-self : goal.returns-then-rank-self
 returns-then-rank-self c =
     let r = receipt_of c.args.self.now in
-    let e = c.nearest-above.ensures ∙ sym (inside r c.args.rank _ (omega (arith, c.args.self.now.counted))) in
+    let e = c.nearest_above.ensures ∙ sym (inside r c.args.rank _ (omega (arith, c.args.self.now.counted))) in
     record { value = e; bound = parent_bound r c.args.rank _ e }

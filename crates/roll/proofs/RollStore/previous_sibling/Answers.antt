@@ -9,14 +9,14 @@ returns-then-rank-eq0 c =
     let n = c.args.self.now.counted in
     record { value = sym (first_alone (receipt_of c.args.self.now) (held_lawful c.args.self.now) c.args.rank (omega arith) (omega arith)); bound = tt }
 
-pub returns-then-level-at : goal.returns-then-level-at
-returns-then-level-at c =
+pub returns-then-level_at : goal.returns-then-level_at
+returns-then-level_at c =
     let n = c.args.self.now.counted in
-    let s = c.previous-no_deeper-at.ensures in
-    record { value = sym (previous_found (receipt_of c.args.self.now) (held_lawful c.args.self.now) c.args.rank c.previous-no_deeper-at.result s.before (omega arith) s.passes (omega arith)); bound = (s.before, omega arith) }
+    let s = c.previous_no_deeper-at.ensures in
+    record { value = sym (previous_found (receipt_of c.args.self.now) (held_lawful c.args.self.now) c.args.rank c.previous_no_deeper-at.result s.before (omega arith) s.passes (omega arith)); bound = (s.before, omega arith) }
 
-pub returns-else-level-at : goal.returns-else-level-at
-returns-else-level-at c =
+pub returns-else-level_at : goal.returns-else-level_at
+returns-else-level_at c =
     let n = c.args.self.now.counted in
-    let s = c.previous-no_deeper-at.ensures in
-    record { value = sym (previous_none (receipt_of c.args.self.now) (held_lawful c.args.self.now) c.args.rank c.previous-no_deeper-at.result s.before (omega arith) s.passes (omega arith)); bound = tt }
+    let s = c.previous_no_deeper-at.ensures in
+    record { value = sym (previous_none (receipt_of c.args.self.now) (held_lawful c.args.self.now) c.args.rank c.previous_no_deeper-at.result s.before (omega arith) s.passes (omega arith)); bound = tt }

@@ -5,11 +5,11 @@ use Rattle.model.proofs.Search.{first_none}
 use Rattle.roll.proofs.check.first_bad_label.Goals as goal
 
 pub loop-rank-preserved : goal.loop-rank-preserved
-loop-rank-preserved c = below_more _ _ c.loop-rank.invariant (sym c.label-breaks.ensures ∙ c.if-label-breaks.false)
+loop-rank-preserved c = below_more _ _ c.loop-rank.invariant (sym c.label_breaks.ensures ∙ c.if-label_breaks.false)
 
-pub returns-then-label-breaks : goal.returns-then-label-breaks
-returns-then-label-breaks c = record {
-  first = sym (first_is (label_breaks c.args.bytes.now c.args.count) c.args.count c.loop-rank.rank c.loop-rank-test.true (sym c.label-breaks.ensures ∙ c.if-label-breaks.true) c.loop-rank.invariant);
+pub returns-then-label_breaks : goal.returns-then-label_breaks
+returns-then-label_breaks c = record {
+  first = sym (first_is (label_breaks c.args.bytes.now c.args.count) c.args.count c.loop-rank.rank c.loop-rank-test.true (sym c.label_breaks.ensures ∙ c.if-label_breaks.true) c.loop-rank.invariant);
   bound = c.loop-rank-test.true;
 }
 

@@ -5,11 +5,11 @@ use Rattle.model.proofs.Search.{first_none}
 use Rattle.roll.proofs.check.first_bad_level.Goals as goal
 
 pub loop-rank-preserved : goal.loop-rank-preserved
-loop-rank-preserved c = below_more _ _ c.loop-rank.invariant (sym c.level-breaks.ensures ∙ c.if-level-breaks.false)
+loop-rank-preserved c = below_more _ _ c.loop-rank.invariant (sym c.level_breaks.ensures ∙ c.if-level_breaks.false)
 
-pub returns-then-level-breaks : goal.returns-then-level-breaks
-returns-then-level-breaks c = record {
-  first = sym (first_is (level_breaks c.args.bytes.now) c.args.count c.loop-rank.rank c.loop-rank-test.true (sym c.level-breaks.ensures ∙ c.if-level-breaks.true) c.loop-rank.invariant);
+pub returns-then-level_breaks : goal.returns-then-level_breaks
+returns-then-level_breaks c = record {
+  first = sym (first_is (level_breaks c.args.bytes.now) c.args.count c.loop-rank.rank c.loop-rank-test.true (sym c.level_breaks.ensures ∙ c.if-level_breaks.true) c.loop-rank.invariant);
   bound = c.loop-rank-test.true;
 }
 

@@ -4,8 +4,8 @@ use Rattle.model.specs.Receipt.{label_at}
 use Rattle.roll.proofs.write.label_byte.Goals as goal
 
 -- A label is at most 250.
-pub overflow-cast-result : goal.overflow-cast-result
-overflow-cast-result g c =
+pub overflow_cast-result : goal.overflow_cast-result
+overflow_cast-result g c =
     let l = (g.S.Store.lawful c.args.store.now).named c.args.rank c.requires in
     let h = c.requires in
     let e = c.in-Some.ensures in

@@ -8,11 +8,11 @@ pub loop-at-preserved : goal.loop-at-preserved
 loop-at-preserved g c =
     let r = g.S.Store.receipt c.args.store.now in
     let n = roll_long r in
-    copied_more (roll_of r) c.args.memory.now c.loop-at.memory c.loop-at.at c.roll-byte.result c.loop-at.invariant c.roll-byte.ensures (omega arith) (omega arith)
+    copied_more (roll_of r) c.args.memory.now c.loop-at.memory c.loop-at.at c.roll_byte.result c.loop-at.invariant c.roll_byte.ensures (omega arith) (omega arith)
 
 pub returns : goal.returns
 returns g c =
     let s =
-    copied_whole (g.S.Store.receipt c.args.store.now) c.args.memory.now c.loop-at.memory c.roll-length-length.result c.loop-at.at
-    c.roll-length-length.ensures c.loop-at-test.false c.loop-at.auto.at-end (omega arith) c.loop-at.invariant in
+    copied_whole (g.S.Store.receipt c.args.store.now) c.args.memory.now c.loop-at.memory c.roll_length-length.result c.loop-at.at
+    c.roll_length-length.ensures c.loop-at-test.false c.loop-at.auto.at-end (omega arith) c.loop-at.invariant in
     record { answers = s.0; leaves = s.1; bound = omega arith }

@@ -14,8 +14,8 @@ attach-requires c =
     let k = t.room in (
       omega arith,
       (
-        below_room c.next-place-place.result.parent t.count (omega arith) (up_below t.links t.count t.depth 0 (omega arith) c.next-place-place.result.parent (sym c.next-place-place.ensures.parent)),
-        below_room c.next-place-place.result.previous t.count (omega arith) (prev_below t.links t.count t.depth 0 (omega arith) c.next-place-place.result.previous (sym c.next-place-place.ensures.previous)),
+        below_room c.next_place-place.result.parent t.count (omega arith) (up_below t.links t.count t.depth 0 (omega arith) c.next_place-place.result.parent (sym c.next_place-place.ensures.parent)),
+        below_room c.next_place-place.result.previous t.count (omega arith) (prev_below t.links t.count t.depth 0 (omega arith) c.next_place-place.result.previous (sym c.next_place-place.ensures.previous)),
       ),
     )
 
@@ -27,15 +27,15 @@ after : (c : goal.After-attach) → Held c.attach.new.links (c.args.self.now.cou
 after c =
     let t = c.args.self.now in
     grown t.links t.count t.depth c.args.label (held t) (omega arith) (omega arith) (omega arith) (omega arith) (live c)
-    c.attach.new.links c.next-place-place.result.parent c.next-place-place.result.previous c.next-place-place.ensures.parent c.next-place-place.ensures.previous c.attach.ensures
+    c.attach.new.links c.next_place-place.result.parent c.next_place-place.result.previous c.next_place-place.ensures.parent c.next_place-place.ensures.previous c.attach.ensures
 
 accepts : (c : goal.After-attach) → opening_fault c.args.label (receipt_of c.args.self.now) ≡ None
 accepts c =
     let k = c.args.self.now.counted in
     elim c.else-self-gt0.branch [ else-self-gt0-via-then-self-gt0+else-self-eq0 w ↦ grind (arith, nat_tests) | else-self-gt0-via-else-self-gt0 w ↦ grind (arith, nat_tests) ]
 
-pub invariant-of-self : goal.invariant-of-self
-invariant-of-self c =
+pub invariant_of-self : goal.invariant_of-self
+invariant_of-self c =
     let g = (after c).0 in
     let l = g.lawful in
     (g.room, (g.few, (g.counted, (g.reads, (l.later, ((λ i h. (l.shallow i h, (l.named i h).0, (l.named i h).1)), ((l.first, l.empty_depth, l.open_depth), (g.linked, tt))))))))
@@ -45,4 +45,4 @@ returns c =
     let b = (goal.at.returns c).After-attach in
     let f = accepts b in
     let k = c.args.self.now.counted in
-    record { answers = ap Ok (sym k) ∙ sym (ap (λ o. answer o (count_of (receipt_of c.args.self.now))) f); holds = (after b).1 ∙ sym (ap (λ o. unless_fault o (opened (receipt_of c.args.self.now) c.args.label) (receipt_of c.args.self.now)) f); keeps = λ i h u p. attached_else c.args.self.now.links c.attach.new.links c.args.self.now.count i _ c.attach.ensures h (λ e. u (sym c.next-place-place.ensures.parent ∙ e)) (λ e. p (sym c.next-place-place.ensures.previous ∙ e)) }
+    record { answers = ap Ok (sym k) ∙ sym (ap (λ o. answer o (count_of (receipt_of c.args.self.now))) f); holds = (after b).1 ∙ sym (ap (λ o. unless_fault o (opened (receipt_of c.args.self.now) c.args.label) (receipt_of c.args.self.now)) f); keeps = λ i h u p. attached_else c.args.self.now.links c.attach.new.links c.args.self.now.count i _ c.attach.ensures h (λ e. u (sym c.next_place-place.ensures.parent ∙ e)) (λ e. p (sym c.next_place-place.ensures.previous ∙ e)) }

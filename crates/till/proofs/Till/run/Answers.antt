@@ -10,13 +10,13 @@ use Rattle.till.proofs.Till.run.Goals.{then-is-ok, else-is-ok}
 pub loop-action-preserved : goal.loop-action-preserved
 loop-action-preserved c =
     let t = turn c.args.actions.now c.loop-action.action-index (Open 0) (receipt_of c.loop-action.self) (receipt_of c.act.new.self) c.loop-action-test.true c.act.ensures.holds in
-    let v = c.is-ok.ensures.value ∙ ap is_ok c.act.ensures.answers in (
+    let v = c.is_ok.ensures.value ∙ ap is_ok c.act.ensures.answers in (
       t.0 ∙ c.loop-action.invariant.0,
-      elim c.if-is-ok.branch [
-        | then-is-ok w ↦ let n : ◌≡◌ {A = ℕ} _ 1 = ap (λ b. cond b 1 0) (sym v ∙ w.if-is-ok.true) in omega (arith, t.1, n, c.loop-action.invariant.1, w.done-is)
-        | else-is-ok w ↦ let n : ◌≡◌ {A = ℕ} _ 0 = ap (λ b. cond b 1 0) (sym v ∙ w.if-is-ok.false) in omega (arith, t.1, n, c.loop-action.invariant.1, w.done-is)
+      elim c.if-is_ok.branch [
+        | then-is-ok w ↦ let n : ◌≡◌ {A = ℕ} _ 1 = ap (λ b. cond b 1 0) (sym v ∙ w.if-is_ok.true) in omega (arith, t.1, n, c.loop-action.invariant.1, w.done-is)
+        | else-is-ok w ↦ let n : ◌≡◌ {A = ℕ} _ 0 = ap (λ b. cond b 1 0) (sym v ∙ w.if-is_ok.false) in omega (arith, t.1, n, c.loop-action.invariant.1, w.done-is)
       ],
-      elim c.if-is-ok.branch [ then-is-ok w ↦ omega (arith, c.loop-action.invariant.2, w.done-is) | else-is-ok w ↦ omega (arith, c.loop-action.invariant.2, w.done-is) ],
+      elim c.if-is_ok.branch [ then-is-ok w ↦ omega (arith, c.loop-action.invariant.2, w.done-is) | else-is-ok w ↦ omega (arith, c.loop-action.invariant.2, w.done-is) ],
     )
 
 pub returns : goal.returns
