@@ -14,7 +14,15 @@ pub invariant_of-result : goal.invariant_of-result
 invariant_of-result c =
     let k = kept c.args.bytes.now c.two_bytes_at.result c.two_bytes_at.ensures c.requires in
     let l = k.lawful in
-    (k.few, (k.room, (k.counted, (k.reads, (l.later, ((λ i h. (l.shallow i h, (l.named i h).0, (l.named i h).1)), ((l.first, l.empty_depth, l.open_depth), tt)))))))
+    record {
+      few = k.few;
+      room = k.room;
+      counted = k.counted;
+      reads = k.reads;
+      stepped = l.later;
+      ranged = λ i h. (l.shallow i h, (l.named i h).0, (l.named i h).1);
+      ends = (l.first, l.empty_depth, l.open_depth);
+    }
 
 pub returns : goal.returns
 returns c = record { fault = refl; tells = ap (λ n. told c.args.bytes.now n (depth_in c.args.bytes.now)) c.two_bytes_at.ensures }

@@ -14,7 +14,7 @@ returns-in-Ok c =
     let none = fault_ok (reading_fault bytes) c.in-Ok.ensures.answers in
     let fault = c.accepted.ensures.fault ∙ sym none in
     let tells = c.accepted.ensures.tells ∙ sym (ap (λ o. unless_refused o (receipt_in bytes)) none) in
-    record { fault = fault; tells = tells; back = reads_back bytes (fault_of roll) (receipt_of roll) fault tells; written = is_written bytes (fault_of roll) (receipt_of roll) fault tells (λ i. omega (arith, c.type-inv.bytes i)) }
+    record { fault = fault; tells = tells; back = reads_back bytes (fault_of roll) (receipt_of roll) fault tells; written = is_written bytes (fault_of roll) (receipt_of roll) fault tells (λ i. omega (arith, c.type_inv.bytes i)) }
 
 pub returns-in-Err : goal.returns-in-Err
 returns-in-Err c =
@@ -23,4 +23,4 @@ returns-in-Err c =
     let some = fault_err (reading_fault bytes) c.in-Err.fault c.in-Err.ensures.answers in
     let fault = c.refused.ensures.fault ∙ sym some in
     let tells = c.refused.ensures.tells ∙ sym (ap (λ o. unless_refused o (receipt_in bytes)) some) in
-    record { fault = fault; tells = tells; back = reads_back bytes (fault_of roll) (receipt_of roll) fault tells; written = is_written bytes (fault_of roll) (receipt_of roll) fault tells (λ i. omega (arith, c.type-inv.bytes i)) }
+    record { fault = fault; tells = tells; back = reads_back bytes (fault_of roll) (receipt_of roll) fault tells; written = is_written bytes (fault_of roll) (receipt_of roll) fault tells (λ i. omega (arith, c.type_inv.bytes i)) }

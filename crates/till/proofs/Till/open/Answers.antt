@@ -38,7 +38,16 @@ pub invariant_of-self : goal.invariant_of-self
 invariant_of-self c =
     let g = (after c).0 in
     let l = g.lawful in
-    (g.room, (g.few, (g.counted, (g.reads, (l.later, ((λ i h. (l.shallow i h, (l.named i h).0, (l.named i h).1)), ((l.first, l.empty_depth, l.open_depth), (g.linked, tt))))))))
+    record {
+      room = g.room;
+      few = g.few;
+      counted = g.counted;
+      reads = g.reads;
+      stepped = l.later;
+      ranged = λ i h. (l.shallow i h, (l.named i h).0, (l.named i h).1);
+      ends = (l.first, l.empty_depth, l.open_depth);
+      linked = g.linked;
+    }
 
 pub returns : goal.returns
 returns c =

@@ -5,7 +5,7 @@ use Rattle.model.specs.declared.action.Action.TheVariants.{Open}
 use Rattle.model.proofs.Runs.{turn}
 use Rattle.till.specs.Held.{receipt_of}
 use Rattle.till.proofs.Till.run.Goals as goal
-use Rattle.till.proofs.Till.run.Goals.{then-is-ok, else-is-ok}
+use Rattle.till.proofs.Till.run.Goals.{then-is_ok, else-is_ok}
 
 pub loop-action-preserved : goal.loop-action-preserved
 loop-action-preserved c =
@@ -13,10 +13,10 @@ loop-action-preserved c =
     let v = c.is_ok.ensures.value ∙ ap is_ok c.act.ensures.answers in (
       t.0 ∙ c.loop-action.invariant.0,
       elim c.if-is_ok.branch [
-        | then-is-ok w ↦ let n : ◌≡◌ {A = ℕ} _ 1 = ap (λ b. cond b 1 0) (sym v ∙ w.if-is_ok.true) in omega (arith, t.1, n, c.loop-action.invariant.1, w.done-is)
-        | else-is-ok w ↦ let n : ◌≡◌ {A = ℕ} _ 0 = ap (λ b. cond b 1 0) (sym v ∙ w.if-is_ok.false) in omega (arith, t.1, n, c.loop-action.invariant.1, w.done-is)
+        | then-is_ok w ↦ let n : ◌≡◌ {A = ℕ} _ 1 = ap (λ b. cond b 1 0) (sym v ∙ w.if-is_ok.true) in omega (arith, t.1, n, c.loop-action.invariant.1, w.done-is)
+        | else-is_ok w ↦ let n : ◌≡◌ {A = ℕ} _ 0 = ap (λ b. cond b 1 0) (sym v ∙ w.if-is_ok.false) in omega (arith, t.1, n, c.loop-action.invariant.1, w.done-is)
       ],
-      elim c.if-is_ok.branch [ then-is-ok w ↦ omega (arith, c.loop-action.invariant.2, w.done-is) | else-is-ok w ↦ omega (arith, c.loop-action.invariant.2, w.done-is) ],
+      elim c.if-is_ok.branch [ then-is_ok w ↦ omega (arith, c.loop-action.invariant.2, w.done-is) | else-is_ok w ↦ omega (arith, c.loop-action.invariant.2, w.done-is) ],
     )
 
 pub returns : goal.returns
