@@ -12,5 +12,5 @@ returns-in-len1-up-text t c =
     (front c.args.text.now (get_or c.args.w.now 0 0) (search rules) (search rules))
     c.word.ensures
 
-pub returns-in-default : goal.returns-in-default
-returns-in-default t c = spells_not c.args.w.now c.args.text.now (search rules) (search rules)
+pub returns-in_default : goal.returns-in_default
+returns-in_default t c = spells_not c.args.w.now c.args.text.now (search rules) (search rules)

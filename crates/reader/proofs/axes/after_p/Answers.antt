@@ -10,7 +10,7 @@ returns-in-97 c =
 
 pub returns-in-114 : goal.returns-in-114
 returns-in-114 c =
-    names_either after_p (λ fs. lits (codes "eceding") (or_sibling fs)) (codes "p") 114 (codes "eceding" ++ codes "::") (codes "eceding" ++ codes "-sibling::") Preceding PrecedingSibling c.args.text.now _ c.with-sibling.result (front c.args.text.now 114 (search rules) (search rules)) (λ fs t. refl) refl refl c.with-sibling.ensures
+    names_either after_p (λ fs. lits (codes "eceding") (or_sibling fs)) (codes "p") 114 (codes "eceding" ++ codes "::") (codes "eceding" ++ codes "-sibling::") Preceding PrecedingSibling c.args.text.now _ c.with_sibling.result (front c.args.text.now 114 (search rules) (search rules)) (λ fs t. refl) refl refl c.with_sibling.ensures
 
-pub returns-in-default : goal.returns-in-default
-returns-in-default c = no_after_p c.args.text.now (search rules) (search rules)
+pub returns-in_default : goal.returns-in_default
+returns-in_default c = no_after_p c.args.text.now (search rules) (search rules)

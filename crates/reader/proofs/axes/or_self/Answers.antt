@@ -1,7 +1,7 @@
 use Rattle.std.proofs.Common.{codes, refl, rules}
 use Rattle.grammar.specs.Machine.{or_self}
 use Rattle.reader.proofs.Moves.{front, either_plain, either_long, no_or_self}
-use Rattle.reader.proofs.axes.or_self_lem.Goals as goal
+use Rattle.reader.proofs.axes.or_self.Goals as goal
 
 pub returns-in-58 : goal.returns-in-58
 returns-in-58 c =
@@ -13,5 +13,5 @@ returns-in-45 c =
     either_long or_self 45 (codes "or-self::") (codes "::") c.args.long c.args.plain c.args.text.now _ c.spelt-in-45.result
     (front c.args.text.now 45 (search rules) (search rules)) (λ fs t. refl) c.spelt-in-45.ensures
 
-pub returns-in-default : goal.returns-in-default
-returns-in-default c = no_or_self c.args.text.now (search rules) (search rules)
+pub returns-in_default : goal.returns-in_default
+returns-in_default c = no_or_self c.args.text.now (search rules) (search rules)

@@ -14,19 +14,19 @@ returns-in-99 c =
 
 pub returns-in-112 : goal.returns-in-112
 returns-in-112 c =
-    names_names axis after_p [] 112 c.args.text.now _ c.after-p.result (front c.args.text.now 112 (search rules) (search rules)) (λ fs t. refl) c.after-p.ensures
+    names_names axis after_p [] 112 c.args.text.now _ c.after_p.result (front c.args.text.now 112 (search rules) (search rules)) (λ fs t. refl) c.after_p.ensures
 
 pub returns-in-100 : goal.returns-in-100
 returns-in-100 c =
-    names_either axis (λ fs. lits (codes "escendant") (or_self fs)) [] 100 (codes "escendant" ++ codes "::") (codes "escendant" ++ codes "-or-self::") Descendant DescendantOrSelf c.args.text.now _ c.with-self.result (front c.args.text.now 100 (search rules) (search rules)) (λ fs t. refl) refl refl c.with-self.ensures
+    names_either axis (λ fs. lits (codes "escendant") (or_self fs)) [] 100 (codes "escendant" ++ codes "::") (codes "escendant" ++ codes "-or-self::") Descendant DescendantOrSelf c.args.text.now _ c.with_self.result (front c.args.text.now 100 (search rules) (search rules)) (λ fs t. refl) refl refl c.with_self.ensures
 
 pub returns-in-97 : goal.returns-in-97
 returns-in-97 c =
-    names_either axis (λ fs. lits (codes "ncestor") (or_self fs)) [] 97 (codes "ncestor" ++ codes "::") (codes "ncestor" ++ codes "-or-self::") Ancestor AncestorOrSelf c.args.text.now _ c.with-self-in-97.result (front c.args.text.now 97 (search rules) (search rules)) (λ fs t. refl) refl refl c.with-self-in-97.ensures
+    names_either axis (λ fs. lits (codes "ncestor") (or_self fs)) [] 97 (codes "ncestor" ++ codes "::") (codes "ncestor" ++ codes "-or-self::") Ancestor AncestorOrSelf c.args.text.now _ c.with_self-in-97.result (front c.args.text.now 97 (search rules) (search rules)) (λ fs t. refl) refl refl c.with_self-in-97.ensures
 
 pub returns-in-102 : goal.returns-in-102
 returns-in-102 c =
-    names_either axis (λ fs. lits (codes "ollowing") (or_sibling fs)) [] 102 (codes "ollowing" ++ codes "::") (codes "ollowing" ++ codes "-sibling::") Following FollowingSibling c.args.text.now _ c.with-sibling.result (front c.args.text.now 102 (search rules) (search rules)) (λ fs t. refl) refl refl c.with-sibling.ensures
+    names_either axis (λ fs. lits (codes "ollowing") (or_sibling fs)) [] 102 (codes "ollowing" ++ codes "::") (codes "ollowing" ++ codes "-sibling::") Following FollowingSibling c.args.text.now _ c.with_sibling.result (front c.args.text.now 102 (search rules) (search rules)) (λ fs t. refl) refl refl c.with_sibling.ensures
 
-pub returns-in-default : goal.returns-in-default
-returns-in-default c = no_axis c.args.text.now (search rules) (search rules) (search rules) (search rules) (search rules) (search rules)
+pub returns-in_default : goal.returns-in_default
+returns-in_default c = no_axis c.args.text.now (search rules) (search rules) (search rules) (search rules) (search rules) (search rules)

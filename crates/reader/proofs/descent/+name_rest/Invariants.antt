@@ -1,5 +1,5 @@
 use Rattle.std.proofs.Common.{length}
 use Rattle.reader.proofs.descent.+name_rest.Given as goal
 
-abbrev pub decreases-name-rest : goal.decreases-name-rest
-decreases-name-rest l = length l.text.now
+abbrev pub decreases-name_rest : goal.decreases-name_rest
+decreases-name_rest l = length l.text.now

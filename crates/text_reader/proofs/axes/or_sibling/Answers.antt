@@ -13,5 +13,5 @@ returns-in-45 c =
     either_long or_sibling 45 (codes "sibling::") (codes "::") c.args.long c.args.plain c.args.text.now _ c.spelt-in-45.result
     (front c.args.text.now 45 (search rules) (search rules)) (λ fs t. refl) c.spelt-in-45.ensures
 
-pub returns-in-default : goal.returns-in-default
-returns-in-default c = no_or_sibling c.args.text.now (search rules) (search rules)
+pub returns-in_default : goal.returns-in_default
+returns-in_default c = no_or_sibling c.args.text.now (search rules) (search rules)

@@ -12,8 +12,8 @@ bytes-preserved c = λ r p.
     (front c.bytes.left.now (get_or c.bytes.due.now 0 0) (search rules) (search rules))
     p)
 
-pub returns-in-default-left : goal.returns-in-default-left
-returns-in-default-left c = c.bytes.invariant (Err (record { left = length c.bytes.left.now })) (spells_not c.bytes.due.now c.bytes.left.now (search rules) (search rules))
+pub returns-in_default-left : goal.returns-in_default-left
+returns-in_default-left c = c.bytes.invariant (Err (record { left = length c.bytes.left.now })) (spells_not c.bytes.due.now c.bytes.left.now (search rules) (search rules))
 
 pub returns : goal.returns
 returns c = c.bytes.invariant (Ok c.bytes.left) (spells_none c.bytes.due.now c.bytes.left.now (search rules))

@@ -12,8 +12,8 @@ bytes-preserved c = λ r p.
     let k : c.bytes.spare ≡ suc (c.bytes.spare - 1) = omega arith in
     c.bytes.invariant r (name_more (c.bytes.spare - 1) c.bytes.spare (get_or x 0 0) x _ r k (front x (get_or x 0 0) (search rules) (search rules)) (search rules) p)
 
-pub returns-then-not-is-name-byte : goal.returns-then-not-is-name-byte
-returns-then-not-is-name-byte c = c.bytes.invariant (Ok c.bytes.left) (name_ends c.bytes.spare c.bytes.left.now (search rules))
+pub returns-then-not-is_name_byte : goal.returns-then-not-is_name_byte
+returns-then-not-is_name_byte c = c.bytes.invariant (Ok c.bytes.left) (name_ends c.bytes.spare c.bytes.left.now (search rules))
 
 pub returns-then-spare-eq0 : goal.returns-then-spare-eq0
 returns-then-spare-eq0 c = c.bytes.invariant (Err (record { left = length c.bytes.left.now })) (search rules)

@@ -4,13 +4,13 @@ use Rattle.text_reader.specs.Drafts.{labelled, noted}
 use Rattle.text_reader.proofs.Moves.{front}
 use Rattle.text_reader.proofs.Compose.{star_read, name_stops, name_read, no_test}
 use Rattle.text_reader.proofs.descent.test.Goals as goal
-use Rattle.text_reader.proofs.descent.test.Goals.{in-Some, in-None, in-default-via-then-text-lt1, in-default-via-in-len1-up+else-is-letter}
+use Rattle.text_reader.proofs.descent.test.Goals.{in-Some, in-None, in_default-via-then-text-lt1, in_default-via-in-len1-up+else-is_letter}
 
-pub returns-in-err-rest : goal.returns-in-err-rest
-returns-in-err-rest g c =
-    let p = err_from_is_err_and c.from-residual.result c.from-residual.ensures.1 in
+pub returns-in_err-rest-in-len1-up : goal.returns-in_err-rest-in-len1-up
+returns-in_err-rest-in-len1-up g c =
+    let p = err_from_is_err_and c.from_residual.result c.from_residual.ensures.1 in
     let x = c.args.text.now in
-    rw (p.1, p.2) (name_stops (get_or x 0 0) x _ _ (front x (get_or x 0 0) (search rules) (search rules)) (sym c.if-is-letter.ensures) c.in-err-rest.ensures)
+    rw (p.1, p.2) (name_stops (get_or x 0 0) x _ _ (front x (get_or x 0 0) (search rules) (search rules)) (sym c.if-is_letter.ensures) c.in_err-rest-in-len1-up.ensures)
 
 pub returns-in-42 : goal.returns-in-42
 returns-in-42 g c = star_read (g.N.Lookup.labels c.args.names.now) c.args.text.now _ _ _ (front c.args.text.now 42 (search rules) (search rules)) c.add.ensures
@@ -18,19 +18,19 @@ returns-in-42 g c = star_read (g.N.Lookup.labels c.args.names.now) c.args.text.n
 pub returns-after-label : goal.returns-after-label
 returns-after-label g c =
     let x = c.args.text.now in
-    let d = c.in-ok-rest.ensures in
-    let n = take (length x - length c.in-ok-rest.rest.now) x in
+    let d = c.in_ok-rest-in-len1-up.ensures in
+    let n = take (length x - length c.in_ok-rest-in-len1-up.rest.now) x in
     let m : c.match-label.draft ≡ labelled (g.N.Lookup.labels c.args.names.now n) (length x) c.args.draft.now =
     elim c.match-label.branch [
       | in-Some w ↦ w.draft-is ∙ w.add-in-Some.ensures ∙ ap (λ (o : Option ℕ). labelled o (length x) c.args.draft.now) w.in-Some.ensures
       | in-None w ↦ w.draft-is ∙ w.note.ensures ∙ ap (noted (length x)) w.add-in-None.ensures ∙ ap (λ (o : Option ℕ). labelled o (length x) c.args.draft.now) w.in-None.ensures
     ]
     in
-    name_read (g.N.Lookup.labels c.args.names.now) (get_or x 0 0) d.0 x _ c.in-ok-rest.rest.now c.args.draft.now c.match-label.draft (front x (get_or x 0 0) (search rules) (search rules)) (sym c.if-is-letter.ensures) d.1 d.2 d.3 m
+    name_read (g.N.Lookup.labels c.args.names.now) (get_or x 0 0) d.0 x _ c.in_ok-rest-in-len1-up.rest.now c.args.draft.now c.match-label.draft (front x (get_or x 0 0) (search rules) (search rules)) (sym c.if-is_letter.ensures) d.1 d.2 d.3 m
 
-pub returns-in-default : goal.returns-in-default
-returns-in-default g c =
-    elim c.in-default.branch [
-      | in-default-via-then-text-lt1 w ↦ no_test c.args.text.now (search rules) (search rules)
-      | in-default-via-in-len1-up+else-is-letter w ↦ no_test c.args.text.now (search rules) (λ h. sym w.is-letter.ensures ∙ w.if-is-letter.false)
+pub returns-in_default : goal.returns-in_default
+returns-in_default g c =
+    elim c.in_default.branch [
+      | in_default-via-then-text-lt1 w ↦ no_test c.args.text.now (search rules) (search rules)
+      | in_default-via-in-len1-up+else-is_letter w ↦ no_test c.args.text.now (search rules) (λ h. sym w.is_letter.ensures ∙ w.if-is_letter.false)
     ]
