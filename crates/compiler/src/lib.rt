@@ -77,7 +77,7 @@ impl Described for QueryFault {
 
 // Reads the whole text into the draft, or answers where the grammar is broken.
 fn parse<N: Lookup>(text: &[u8], names: &N, draft: &mut Draft) -> Option<usize>
-    ensures { Drafted text.now (labels names.now) draft.old draft.new result }
+    ensures { Drafted text.now (N.labels names.now) draft.old draft.new result }
 {
     match text {
         [b'/', more @ ..] => match spine(more, names, draft) {
@@ -143,9 +143,9 @@ pub fn compile_with<N: Lookup>(
     names: &N,
     table: &mut [Part],
 ) -> Result<usize, QueryFault>
-    ensures answers { Answered text.now (labels names.now) table.old table.new result }
-    ensures only { (other : Result ℕ QueryFault) (new : List Part) → Answered text.now (labels names.now) table.old new other → other ≡ result }
-    ensures written { ReadsAsWritten text.now (labels names.now) table.new result }
+    ensures answers { Answered text.now (N.labels names.now) table.old table.new result }
+    ensures only { (other : Result ℕ QueryFault) (new : List Part) → Answered text.now (N.labels names.now) table.old new other → other ≡ result }
+    ensures written { ReadsAsWritten text.now (N.labels names.now) table.new result }
 {
     if text.len() == 0 || text.len() > MOST_TEXT {
         return Err(QueryFault::BadSize);

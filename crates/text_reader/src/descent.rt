@@ -38,7 +38,7 @@ fn name_rest(text: &[u8], room: usize) -> Result<&[u8], Stuck>
 
 // "*" or a name.
 fn test<'a, N: Lookup>(text: &'a [u8], names: &N, draft: &mut Draft) -> Result<&'a [u8], Stuck>
-    ensures { TestRead (labels names.now) text.now draft.old draft.new result }
+    ensures { TestRead (N.labels names.now) text.now draft.old draft.new result }
 {
     match text {
         [b'*', rest @ ..] => {
@@ -115,7 +115,7 @@ fn step<'a, N: Lookup>(
     names: &N,
     draft: &mut Draft,
 ) -> Result<(Axis, &'a [u8]), Stuck>
-    ensures { StepRead (labels names.now) text.now draft.old draft.new result }
+    ensures { StepRead (N.labels names.now) text.now draft.old draft.new result }
 {
     count(draft);
     let (axis, more) = read_axis(text)?;
@@ -137,7 +137,7 @@ fn step<'a, N: Lookup>(
 // A path in a filter: steps joined by "/".
 #[cycle(atom_filter_joins_path_step)]
 fn path<'a, N: Lookup>(text: &'a [u8], names: &N, draft: &mut Draft) -> Result<&'a [u8], Stuck>
-    ensures { PathRead (labels names.now) text.now draft.old draft.new result }
+    ensures { PathRead (N.labels names.now) text.now draft.old draft.new result }
 {
     let (axis, rest) = step(text, names, draft)?;
     match rest {
@@ -158,7 +158,7 @@ fn path<'a, N: Lookup>(text: &'a [u8], names: &N, draft: &mut Draft) -> Result<&
 // A path, "(" and a filter and ")", or "not(" and a filter and ")".
 #[cycle(atom_filter_joins_path_step)]
 fn atom<'a, N: Lookup>(text: &'a [u8], names: &N, draft: &mut Draft) -> Result<&'a [u8], Stuck>
-    ensures { AtomRead (labels names.now) text.now draft.old draft.new result }
+    ensures { AtomRead (N.labels names.now) text.now draft.old draft.new result }
 {
     match text {
         [b'(', more @ ..] => {
@@ -184,7 +184,7 @@ fn atom<'a, N: Lookup>(text: &'a [u8], names: &N, draft: &mut Draft) -> Result<&
 // An atom and what is joined to it.
 #[cycle(atom_filter_joins_path_step)]
 fn filter<'a, N: Lookup>(text: &'a [u8], names: &N, draft: &mut Draft) -> Result<&'a [u8], Stuck>
-    ensures { FilterRead (labels names.now) text.now draft.old draft.new result }
+    ensures { FilterRead (N.labels names.now) text.now draft.old draft.new result }
 {
     let rest = atom(text, names, draft)?;
     joins(rest, names, draft, None)
@@ -198,7 +198,7 @@ fn joins<'a, N: Lookup>(
     draft: &mut Draft,
     waiting: Option<u16>,
 ) -> Result<&'a [u8], Stuck>
-    ensures { JoinsRead (labels names.now) waiting text.now draft.old draft.new result }
+    ensures { JoinsRead (N.labels names.now) waiting text.now draft.old draft.new result }
 {
     match text {
         [b' ', more @ ..] => {
@@ -229,7 +229,7 @@ fn joins<'a, N: Lookup>(
 
 // The query's own path: each step is joined with the query before it.
 pub fn spine<'a, N: Lookup>(text: &'a [u8], names: &N, draft: &mut Draft) -> Result<&'a [u8], Stuck>
-    ensures { SpineRead (labels names.now) text.now draft.old draft.new result }
+    ensures { SpineRead (N.labels names.now) text.now draft.old draft.new result }
 {
     let before = root(draft);
     let (axis, rest) = step(text, names, draft)?;
