@@ -14,6 +14,6 @@ pub returns-in-None : goal.returns-in-None
 returns-in-None c =
     let s = c.args.sheet.now in
     let e : fault_of s ≡ None = sym c.fault.ensures ∙ c.in-None.is in
-    let a = c.compile-with.ensures in
-    let x = by_text (fault_of s) e c.args.text.now (labels_of s) c.args.table.now c.compile-with.new.table c.compile-with.result a.answers a.only in
+    let a = c.compile_with.ensures in
+    let x = by_text (fault_of s) e c.args.text.now (labels_of s) c.args.table.now c.compile_with.new.table c.compile_with.result a.answers a.only in
     record { answers = x.answers; only = x.only; written = a.written }

@@ -12,8 +12,8 @@ returns-else-rest-eq0 g c = parsed_part (g.N.Lookup.labels c.args.names.now) c.a
 pub returns-in-Err : goal.returns-in-Err
 returns-in-Err g c = parsed_stuck c.args.text.now _ c.in-Err.e.left (front c.args.text.now 47 (search rules) (search rules)) c.in-Err.ensures
 
-pub returns-in-default : goal.returns-in-default
-returns-in-default g c = parsed_none c.args.text.now (search rules)
+pub returns-in_default : goal.returns-in_default
+returns-in_default g c = parsed_none c.args.text.now (search rules)
 
-pub returns-in-default·2 : goal.returns-in-default·2
-returns-in-default·2 g c = parsed_none c.args.text.now (search rules)
+pub returns-in_default-2 : goal.returns-in_default-2
+returns-in_default-2 g c = parsed_none c.args.text.now (search rules)
