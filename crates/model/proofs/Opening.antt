@@ -145,7 +145,7 @@ module _ (r : Receipt) (l : ℕ) where
       let u = same_parts (innermost r) (parent_of r i) t in
       let s = last_some _ (count_of r) q e in
       let sib = same_from (parent_of r i) (innermost r) u.0 u.2 u.1 in
-      let not-i : (i ≡ q) → ⊥ = λ (m : i ≡ q). ne (e ∙ ap Some (sym m)) in
+      let not_i : (i ≡ q) → ⊥ = λ (m : i ≡ q). ne (e ∙ ap Some (sym m)) in
       let before : i < q = ⊎_elim (λ c. c) (λ c. absurd (both_ways _ (s.2 i (omega arith) h) sib)) (cases_lt i q) in
       let k : later' i q ≡ true = later_old i q h s.0 ∙ and_from (ltb i q) _ (lt-ltb i q before) (ap (same_rank (parent_of r q)) (u.2 ∙ sym u.1) ∙ s.1) in
       next_opens i (omega arith) ∙ first_more (later' i) (count_of r) q s.0 k ∙ next_kept i h

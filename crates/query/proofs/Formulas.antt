@@ -49,7 +49,7 @@ whole x = query_formula (query_of x)
 
 -- It takes the piece's own formula if the tag fits.
 abbrev Fits : (Piece → Formula) → (Tag → Bool) → Formula → Type 0
-Fits take-from fits other = (t : Tag) (before : List Piece) (j k : ℕ) → take-from (tagged t before j k) ≡ cond (fits t) (piece_formula (tagged t before j k)) other
+Fits take_from fits other = (t : Tag) (before : List Piece) (j k : ℕ) → take_from (tagged t before j k) ≡ cond (fits t) (piece_formula (tagged t before j k)) other
 
 test_fits : Fits tested is_test (test any)
 test_fits First before j k = refl
@@ -168,16 +168,16 @@ module _ (parts : List Part) (i : ℕ) (h : i < length parts) where
   abbrev before : List Piece
   before = pieces (take i parts)
 
-  fitted : (take-from : Piece → Formula) (fits : Tag → Bool) (other : Formula) → Fits take-from fits other → take-from begins ≡ other → (j : ℕ) → take-from (piece_at before j) ≡ fitting fits other parts i j
-  fitted take-from fits other is none j = ⊎_elim below above (cases_lt j i)
+  fitted : (take_from : Piece → Formula) (fits : Tag → Bool) (other : Formula) → Fits take_from fits other → take_from begins ≡ other → (j : ℕ) → take_from (piece_at before j) ≡ fitting fits other parts i j
+  fitted take_from fits other is none j = ⊎_elim below above (cases_lt j i)
     where
-      below : j < i → take-from (piece_at before j) ≡ fitting fits other parts i j
+      below : j < i → take_from (piece_at before j) ≡ fitting fits other parts i j
       below l =
           let p = piece_is parts j (omega arith) in
-          ap take-from (piece_stays parts i j l (omega arith) ∙ p) ∙ is (tag_at parts j) (pieces (take j parts)) (part_at parts j).first (part_at parts j).second ∙ ap (λ (x : Piece). cond (fits (tag_at parts j)) (piece_formula x) other) (sym p) ∙ sym (ap (λ (b : Bool). cond (b && fits (tag_at parts j)) (formula_at parts j) other) (lt-ltb j i l))
+          ap take_from (piece_stays parts i j l (omega arith) ∙ p) ∙ is (tag_at parts j) (pieces (take j parts)) (part_at parts j).first (part_at parts j).second ∙ ap (λ (x : Piece). cond (fits (tag_at parts j)) (piece_formula x) other) (sym p) ∙ sym (ap (λ (b : Bool). cond (b && fits (tag_at parts j)) (formula_at parts j) other) (lt-ltb j i l))
 
-      above : i ≤ j → take-from (piece_at before j) ≡ fitting fits other parts i j
-      above l = ap take-from (piece_none parts i j l (omega arith)) ∙ none ∙ sym (ap (λ (b : Bool). cond (b && fits (tag_at parts j)) (formula_at parts j) other) (le-ltb j i l))
+      above : i ≤ j → take_from (piece_at before j) ≡ fitting fits other parts i j
+      above l = ap take_from (piece_none parts i j l (omega arith)) ∙ none ∙ sym (ap (λ (b : Bool). cond (b && fits (tag_at parts j)) (formula_at parts j) other) (le-ltb j i l))
 
   two : (make : Formula → Formula → Formula) (x x' y y' : Formula) → x ≡ x' → y ≡ y' → make x y ≡ make x' y'
   two make x x' y y' p q = ap (λ (z : Formula). make z y) p ∙ ap (make x') q

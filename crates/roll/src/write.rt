@@ -1,7 +1,7 @@
 // Writing the roll of any store's receipt into lent memory.
 ghost use Rattle.std.specs.Prelude.{◌≡◌, ℕ, ◌+◌, ◌*◌, ◌/◌, ◌%◌, ◌<◌, ◌≤◌, length, IfOk, slice_index};
 ghost use Rattle.model.specs.Receipt.{count_of, label_at, level_at};
-ghost use Rattle.model.specs.Roll.{header as headerBytes, memory_after, roll_length, roll_of, writing};
+ghost use Rattle.model.specs.Roll.{header as header_bytes, memory_after, roll_length, roll_of, writing};
 
 use crate::layout::{EDITION, HEADER_LENGTH};
 use model::fault::RollFault;
@@ -24,7 +24,7 @@ fn two_bytes(n: usize) -> (u8, u8)
 
 fn header(depth: u8, count: usize) -> [u8; HEADER_LENGTH]
     requires { count ≤ 256 }
-    ensures { result ≡ headerBytes depth count }
+    ensures { result ≡ header_bytes depth count }
 {
     let (count_high, count_low) = two_bytes(count);
     let (levels_high, levels_low) = two_bytes(HEADER_LENGTH);
@@ -65,7 +65,7 @@ fn label_byte<S: Store>(store: &S, rank: usize) -> u8
 
 // The roll's byte at a place.
 fn roll_byte<S: Store>(store: &S, head: &[u8; HEADER_LENGTH], at: usize) -> u8
-    requires head { head.now ≡ headerBytes (S.receipt store.now).depth (count_of (S.receipt store.now)) }
+    requires head { head.now ≡ header_bytes (S.receipt store.now).depth (count_of (S.receipt store.now)) }
     requires at { at < roll_length (count_of (S.receipt store.now)) }
     ensures { result ≡ slice_index (roll_of (S.receipt store.now)) at }
 {

@@ -2,7 +2,7 @@
 ghost use Rattle.std.specs.Prelude.{◌≡◌, ◌+◌, ◌<◌, ◌≤◌, true, length, Some};
 ghost use Rattle.model.specs.Limits.{most_length, most_parts, places};
 ghost use Rattle.model.specs.Query.{path_length};
-ghost use Rattle.table.specs.Reading.{itself as selfPath, reading};
+ghost use Rattle.table.specs.Reading.{itself as self_path, reading};
 ghost use Rattle.table.specs.Formulas.{PartByPart};
 ghost use Rattle.table.specs.Lawful.{LawfulQuery, checked_reading, EveryTableIsLawful, PastTheQueryNothingCounts};
 ghost use Rattle.table.specs.Held.{Ended, EndsAt, Fitting, Measured, parts_of, reads_as};
@@ -64,7 +64,7 @@ fn lawful_length(table: &[Part], n: usize) -> Option<usize>
 
 impl<'a> CheckedQuery<'a> {
     fn itself() -> CheckedQuery<'a>
-        ensures { reads_as result ≡ selfPath }
+        ensures { reads_as result ≡ self_path }
     {
         CheckedQuery {
             parts: &ITSELF,

@@ -1,6 +1,6 @@
 // What sort of thing a part is, and which sorts serve where a part names another.
 ghost use Rattle.std.specs.Prelude.{◌≡◌};
-ghost use Rattle.table.specs.Sorts.{sort_of, serves as servesAs};
+ghost use Rattle.table.specs.Sorts.{sort_of, serves as serves_as};
 
 use crate::part::Tag;
 
@@ -59,7 +59,7 @@ impl Tag {
 impl Sort {
     // Whether a part of this sort serves in the role.
     pub fn serves(self, role: Role) -> bool
-        ensures { result ≡ servesAs self role }
+        ensures { result ≡ serves_as self role }
     {
         match self {
             Sort::Start | Sort::Query => matches!(role, Role::Starting),
