@@ -1,5 +1,5 @@
 -- Known: where every name of a tree has a label, the labels are ones that elements can have.
-use Rattle.std.proofs.Common.{◌≡◌, ℕ, Bool, true, false, cond, ◌&&◌, leb, List, [], ◌∷◌, ◌++◌, length, is_some, Some, None, codes, Option, refl, arith}
+use Rattle.std.proofs.Common.{◌≡◌, ℕ, Bool, true, false, cond, leb, List, [], ◌∷◌, ◌++◌, length, is_some, Some, None, codes, Option, refl, arith}
 use Rattle.std.proofs.lemmas.Bool.{and_from, le-leb, false≢true}
 use Rattle.model.specs.Limits.{most_label}
 use Rattle.model.specs.Query.{named}

@@ -1,5 +1,5 @@
 -- Noted: what a draft counts is the length of the tree, up to the most, and it notes the first unknown name.
-use Rattle.std.proofs.Common.{◌≡◌, ℕ, ◌+◌, ◌-◌, ◌<◌, ◌≤◌, Bool, true, false, cond, ltb, List, [], ◌∷◌, ◌++◌, length, set, is_some, Some, None, codes, Option, sym, refl, ap, ◌∙◌, ⊎_elim, arith}
+use Rattle.std.proofs.Common.{◌≡◌, ℕ, ◌+◌, ◌<◌, ◌≤◌, Bool, true, false, cond, ltb, List, [], ◌∷◌, ◌++◌, length, set, is_some, Some, None, codes, Option, sym, refl, ap, ◌∙◌, ⊎_elim, arith}
 use Rattle.std.proofs.lemmas.Bool.{le-leb, lt-leb, cases_lt}
 use Rattle.model.specs.Receipt.{or_else}
 use Rattle.model.specs.Limits.{most_length, most_parts}
@@ -10,7 +10,7 @@ use Rattle.names.specs.Labels.{Labels}
 use Rattle.text_reader.specs.declared.draft.Draft.{Draft}
 use Rattle.table.specs.declared.part.Part.{Part}
 use Rattle.table.specs.declared.part.Tag.TheVariants.{Any, Named}
-use Rattle.text_reader.specs.Drafts.{part, added, counted, first_of, noted, entered, exited, root, joined_to, reached, labelled, joining, enclosed, test_drafted, step_axis, step_drafted, path_drafted, or_drafted, and_drafted, atom_drafted, linked, spine_drafted}
+use Rattle.text_reader.specs.Drafts.{part, added, counted, first_of, entered, exited, labelled, enclosed, test_drafted, step_axis, step_drafted, path_drafted, or_drafted, and_drafted, atom_drafted, linked, spine_drafted}
 use Rattle.compiler.specs.Answers.{test_names, path_names, step_names, or_names, and_names, atom_names, first_unknown}
 use Rattle.compiler.proofs.Built.{label}
 

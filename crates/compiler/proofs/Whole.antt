@@ -3,9 +3,8 @@ use Rattle.std.proofs.Common.{◌≡◌, ℕ, ◌+◌, ◌-◌, ◌*◌, ◌<◌
 use Rattle.std.proofs.lemmas.List.{nil_from_length, drop-drop, drop-set-lt}
 use Rattle.std.proofs.lemmas.Bool.{cases_lt, ne_eqb}
 use Rattle.model.specs.Limits.{most_length, most_parts, places}
-use Rattle.model.specs.Query.{path_length}
 use Rattle.names.specs.Labels.{Labels, InRange}
-use Rattle.model.specs.Grammar.{PathTree, path_text, Reads, Query, Breaks}
+use Rattle.model.specs.Grammar.{PathTree, path_text, Breaks}
 use Rattle.grammar.specs.Machines.{dead, go, stops}
 use Rattle.grammar.specs.Machine.{axis, done, begin, run}
 use Rattle.grammar.proofs.Forward.{go_on}
@@ -27,7 +26,7 @@ use Rattle.compiler.specs.Limits.{Tree, Limited, Copied}
 use Rattle.text_reader.proofs.Moves.{Not as IsNot}
 use Rattle.text_reader.proofs.Compose.{ParsedSpine}
 use Rattle.compiler.proofs.Built.{Ready, Built, query_built}
-use Rattle.compiler.proofs.Noted.{Noted, spine_noted}
+use Rattle.compiler.proofs.Noted.{spine_noted}
 use Rattle.compiler.proofs.Deep.{placed, deep_noted}
 
 -- The grammar's side.

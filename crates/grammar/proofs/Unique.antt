@@ -1,9 +1,9 @@
 -- Unique: a text has at most one tree. A part is read off the front of a text, and what follows says where it ends.
-use Rattle.std.proofs.Common.{◌≡◌, ℕ, zero, suc, ◌+◌, ◌<◌, ◌≤◌, true, false, cond, eqb, List, [], ◌∷◌, ◌++◌, length, get_or, drop, sym, refl, ap, ◌∙◌, subst, append_assoc, append-nil, arith, length-append}
+use Rattle.std.proofs.Common.{◌≡◌, ℕ, zero, suc, ◌<◌, ◌≤◌, true, false, cond, eqb, List, [], ◌∷◌, ◌++◌, length, get_or, drop, sym, refl, ap, ◌∙◌, subst, append_assoc, append-nil, arith, length-append}
 use mathlib.Core.Bool.{Bool-set}
 use Rattle.std.proofs.lemmas.Bool.{and_parts, false≢true, eq-eqb}
 use Rattle.model.specs.Names.{is_letter, is_name_byte, are_name_bytes, is_name}
-use Rattle.model.specs.Grammar.{axis_text, TestTree, star, name, test_text, PathTree, StepTree, OrChain, Atom, one, slash, bare, held, or, atom, and, along, parens, negate, path_text, step_text, or_text, atom_text}
+use Rattle.model.specs.Grammar.{axis_text, TestTree, star, name, test_text, PathTree, StepTree, OrChain, Atom, one, slash, bare, held, along, parens, negate, path_text, step_text, or_text, atom_text}
 use Rattle.model.specs.declared.axis.Axis.{Axis}
 use Rattle.model.specs.declared.axis.Axis.TheVariants.{Itself, Child, Parent, Descendant, Ancestor, DescendantOrSelf, AncestorOrSelf, FollowingSibling, PrecedingSibling, Following, Preceding}
 use Rattle.grammar.specs.Theorems.{Unambiguous}

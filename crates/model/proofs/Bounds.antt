@@ -1,7 +1,7 @@
 -- Where an element's relatives stand.
-use Rattle.std.proofs.Common.{◌≡◌, ℕ, zero, suc, ◌<◌, Bool, true, false, cond, ◌&&◌, eqb, ltb, IfSome, Some, None, Option, sym, refl, ap, ◌∙◌, ⊎_elim, arith}
-use Rattle.std.proofs.lemmas.Bool.{cases_lt, eqb-true, ltb-true, le-ltb, and_parts, cond-false}
-use Rattle.model.specs.Receipt.{Receipt, within, count_of, parent_of, first_child_of, next_sibling_of, previous_sibling_of, same_rank, last_where, first_where}
+use Rattle.std.proofs.Common.{◌≡◌, ℕ, ◌<◌, ltb, IfSome, Some, None, Option, sym, ◌∙◌, ⊎_elim, arith}
+use Rattle.std.proofs.lemmas.Bool.{cases_lt, ltb-true, le-ltb, and_parts, cond-false}
+use Rattle.model.specs.Receipt.{Receipt, within, count_of, parent_of, first_child_of, next_sibling_of, previous_sibling_of}
 use Rattle.model.proofs.Relatives.{inside, parent_some}
 use Rattle.model.proofs.Search.{last_some, first_some, same_is}
 

@@ -1,11 +1,11 @@
 -- What an opening does to the relatives of each element.
-use Rattle.std.proofs.Common.{◌≡◌, ℕ, zero, suc, ◌+◌, ◌-◌, ◌<◌, ◌≤◌, Bool, true, false, cond, ◌&&◌, eqb, ltb, ◌⊎◌, List, [], ◌∷◌, ◌++◌, length, get_or, Some, None, Option, sym, refl, ap, ◌∙◌, subst, inl, inr, ⊎_elim, add-one, arith, length-append}
-use Rattle.std.proofs.lemmas.Bool.{cases_eq, cases_lt, ne_eqb, eq-eqb, eqb-true, cases_Bool, cond-true, cond-false, lt-ltb, le-ltb, ltb-true, and_left, and_right, and_from, both_ways}
+use Rattle.std.proofs.Common.{◌≡◌, ℕ, zero, suc, ◌+◌, ◌<◌, ◌≤◌, Bool, true, false, ◌&&◌, ltb, [], ◌∷◌, get_or, Some, None, Option, sym, refl, ap, ◌∙◌, ⊎_elim, add-one, arith, length-append}
+use Rattle.std.proofs.lemmas.Bool.{cases_eq, cases_lt, eq-eqb, cases_Bool, lt-ltb, le-ltb, and_left, and_right, and_from, both_ways}
 use Rattle.std.proofs.lemmas.List.{get_or_append_left, get_or_push}
-use Rattle.model.specs.Receipt.{Element, Receipt, Lawful, within, absent, count_of, level_at, label_at, nearest, parent_of, first_child_of, next_sibling_of, previous_sibling_of, last_where, first_where, same_rank, innermost, last_inside, opened}
+use Rattle.model.specs.Receipt.{Element, Receipt, Lawful, absent, count_of, level_at, label_at, nearest, parent_of, first_child_of, next_sibling_of, previous_sibling_of, first_where, same_rank, innermost, last_inside, opened}
 use Rattle.model.specs.Limits.{most_elements, most_label, most_depth}
 use Rattle.model.proofs.Relatives.{inside, parent_some}
-use Rattle.model.proofs.Search.{last_cong, last_none, last_is, last_some, last_none_all, first_cong, first_none, first_more, first_new, first_same, apart_rank, same_rank_lem, same_parts}
+use Rattle.model.proofs.Search.{last_cong, last_some, last_none_all, first_cong, first_none, first_more, first_new, first_same, apart_rank, same_rank_lem, same_parts}
 
 abbrev fresh : Receipt → ℕ → Element
 fresh r l = record { label = l; level = r.depth }

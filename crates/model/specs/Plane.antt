@@ -1,5 +1,5 @@
 -- The pre/post plane: every element has a pre rank, which is its rank, and a post rank.
-use Rattle.std.specs.Prelude.{◌≡◌, ℕ, zero, suc, ◌+◌, ◌-◌, Bool, true, false, cond, ◌&&◌, ◌||◌, Some, None, Option, ◌==◌, nat_lt}
+use Rattle.std.specs.Prelude.{ℕ, zero, suc, ◌+◌, ◌-◌, Bool, false, cond, ◌&&◌, ◌||◌, Some, None, Option, ◌==◌, nat_lt}
 use Rattle.model.specs.Receipt.{Receipt, count_of, level_at, parent_of, same_rank}
 
 -- whether x is p, or p's parent, or that one's parent, and so on, k of them at the most

@@ -1,5 +1,4 @@
 -- Each fault as callers are told of it: number, layer, place.
-use Rattle.model.specs.declared.fault.Layer.{Layer}
 use Rattle.model.specs.declared.fault.Layer.TheVariants.{Receipt, Roll}
 use Rattle.model.specs.declared.fault.Refusal.{Refusal}
 use Rattle.model.specs.declared.fault.ReceiptFault.{ReceiptFault}

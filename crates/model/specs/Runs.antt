@@ -1,11 +1,11 @@
 -- Openings and closings, when they are refused, and the receipt after a list of them.
-use Rattle.std.specs.Prelude.{◌≡◌, ℕ, Bool, cond, ◌||◌, List, [], ◌∷◌, Some, None, Ok, Err, Option, Result, ◌==◌, nat_le, nat_lt}
+use Rattle.std.specs.Prelude.{ℕ, cond, ◌||◌, List, [], ◌∷◌, Some, None, Ok, Err, Option, Result, ◌==◌, nat_le, nat_lt}
 use Rattle.model.specs.declared.action.Action.{Action}
 use Rattle.model.specs.declared.action.Action.TheVariants.{Open, Close}
 use Rattle.model.specs.declared.fault.ReceiptFault.{ReceiptFault}
 use Rattle.model.specs.declared.fault.ReceiptFault.TheVariants.{BadLabel, Ended, Full, TooDeep, NothingOpen}
 use Rattle.model.specs.Limits.{most_elements, most_label, most_depth}
-use Rattle.model.specs.Receipt.{Receipt, Lawful, count_of, has_ended, empty, opened, closed}
+use Rattle.model.specs.Receipt.{Receipt, count_of, has_ended, opened, closed}
 
 -- The first reason that applies, in this order.
 abbrev pub opening_fault : ℕ → Receipt → Option ReceiptFault

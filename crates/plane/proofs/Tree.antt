@@ -1,6 +1,6 @@
 -- The plane's tests, by levels, are the tree's relations.
 use Rattle.std.proofs.Common.{◌≡◌, ℕ, zero, suc, ◌+◌, ◌<◌, ◌≤◌, true, ◌⊎◌, Some, None, Decides, Option, sym, refl, ap, ◌∙◌, inl, inr, ⊎_elim, arith}
-use Rattle.std.proofs.lemmas.Bool.{cases_order, cases_lt, ltb-true, lt-ltb, and_parts, and_from, eq-eqb, eqb-true, false≢true}
+use Rattle.std.proofs.lemmas.Bool.{cases_order, cases_lt, ltb-true, lt-ltb, and_parts, and_from, eq-eqb, eqb-true}
 use Rattle.model.specs.Receipt.{Receipt, Lawful, count_of, level_at, parent_of, same_rank}
 use Rattle.model.specs.Plane.{descends, follows, is_child, is_later_sibling}
 use Rattle.model.proofs.Search.{same_parts}

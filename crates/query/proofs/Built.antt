@@ -1,8 +1,7 @@
 -- Built: the parts that a tree drafts read as what it means, as long as there is room for them.
-use Rattle.std.proofs.Common.{◌≡◌, ℕ, ◌+◌, ◌-◌, ◌*◌, ◌<◌, ◌≤◌, Bool, cond, ltb, List, [], ◌∷◌, ◌++◌, length, get_or, take, set, Some, None, codes, Option, sym, refl, ap, ◌∙◌, arith}
+use Rattle.std.proofs.Common.{◌≡◌, ℕ, ◌+◌, ◌-◌, ◌*◌, ◌<◌, ◌≤◌, Bool, cond, List, [], ◌∷◌, ◌++◌, length, take, set, Some, None, codes, Option, refl, ap, ◌∙◌, arith}
 use Rattle.std.proofs.lemmas.List.{take_more_set, length-set, length-take-le, get_or_append_left, get_or_push}
 use Rattle.std.proofs.lemmas.Bool.{lt-ltb}
-use Rattle.model.specs.declared.axis.Axis.{Axis}
 use Rattle.model.specs.Query.{named, Path, last, then, Filter, holds, both, either, negated, path_length, step_length, filter_length}
 use Rattle.model.specs.Query as m
 use Rattle.model.specs.Grammar.{TestTree, star, PathTree, StepTree, OrChain, AndChain, Atom, one, slash, bare, ands, or, and, along, parens, negate, path_text, or_text, and_text, atom_text, test_meaning, path_meaning, step_meaning, or_meaning, and_meaning, atom_meaning}
@@ -13,7 +12,7 @@ use Rattle.reader.specs.declared.table.Part.{Part}
 use Rattle.reader.specs.declared.table.Tag.{Tag}
 use Rattle.reader.specs.declared.table.Tag.TheVariants.{Any, Named, Filtered, Then, Along, And, Or, Not, Step}
 use Rattle.reader.specs.Table.{Asked, only, also, Piece, begins, asks, onward, path, filter, query, step_of, extended, test_of, asked_of, path_of, path_to, filter_of, query_with, piece_at, tagged, piece_of, pieces}
-use Rattle.reader.specs.Drafts.{part, added, counted, noted, entered, exited, root, joined_to, reached, labelled, joining, enclosed, test_drafted, step_axis, step_drafted, path_drafted, or_drafted, and_drafted, atom_drafted, linked, spine_drafted}
+use Rattle.reader.specs.Drafts.{part, added, counted, noted, entered, exited, root, joined_to, reached, labelled, enclosed, test_drafted, step_axis, step_drafted, path_drafted, or_drafted, and_drafted, atom_drafted, linked, spine_drafted}
 use Rattle.query.specs.Answers.{or_zero}
 use Rattle.query.proofs.Pieces.{pieces_push, pieces_length}
 

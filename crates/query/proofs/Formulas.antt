@@ -1,5 +1,5 @@
 -- Formulas: each part's formula comes from those of the parts that it names.
-use Rattle.std.proofs.Common.{◌≡◌, ℕ, ◌+◌, ◌-◌, ◌<◌, ◌≤◌, Bool, true, false, cond, ◌&&◌, ltb, List, [], ◌∷◌, ◌++◌, length, get_or, take, sym, refl, ap, ◌∙◌, ⊎_elim, arith}
+use Rattle.std.proofs.Common.{◌≡◌, ℕ, ◌-◌, ◌<◌, ◌≤◌, Bool, cond, ◌&&◌, List, [], ◌∷◌, length, take, sym, refl, ap, ◌∙◌, ⊎_elim, arith}
 use Rattle.std.proofs.lemmas.Bool.{cases_lt, lt-ltb, le-ltb}
 use Rattle.model.specs.declared.axis.Axis.{Axis}
 use Rattle.model.specs.declared.axis.Axis.TheVariants.{Itself}
@@ -10,8 +10,8 @@ use Rattle.model.specs.Verdict.{Formula, test, first, conj, disj, neg, along, pa
 use Rattle.reader.specs.declared.table.Part.{Part}
 use Rattle.reader.specs.declared.table.Tag.{Tag}
 use Rattle.reader.specs.declared.table.Tag.TheVariants.{First, Any, Named, Filtered, Then, Along, And, Or, Not, Step}
-use Rattle.reader.specs.Table.{Asked, only, also, Piece, begins, asks, onward, path, filter, query, step_of, itself, extended, test_of, asked_of, path_of, path_to, filter_of, query_with, query_of, piece_at, tagged, pieces, reading}
-use Rattle.query.specs.Formulas.{asked_formula, piece_formula, formula_at, is_test, is_asked, is_reached, is_path, is_filter, is_step, is_query, part_at, tag_at, fitting, tag_formula, part_formula, PartByPart}
+use Rattle.reader.specs.Table.{Asked, only, also, Piece, begins, asks, onward, path, filter, query, step_of, itself, test_of, asked_of, path_of, path_to, filter_of, query_with, query_of, piece_at, tagged, pieces, reading}
+use Rattle.query.specs.Formulas.{asked_formula, piece_formula, formula_at, is_test, is_asked, is_reached, is_path, is_filter, is_step, is_query, part_at, tag_at, fitting, tag_formula, part_formula}
 use Rattle.query.specs.Tables.{TablesPartByPart}
 use Rattle.query.proofs.Pieces.{piece_is, piece_stays, piece_none, extended_from}
 

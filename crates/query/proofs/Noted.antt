@@ -1,5 +1,5 @@
 -- Noted: what a draft counts is the length of the tree, up to the most, and it notes the first unknown name.
-use Rattle.std.proofs.Common.{◌≡◌, ℕ, ◌+◌, ◌-◌, ◌<◌, ◌≤◌, Bool, true, false, cond, ltb, List, [], ◌∷◌, ◌++◌, length, set, is_some, Some, None, codes, Option, sym, refl, ap, ◌∙◌, ⊎_elim, arith}
+use Rattle.std.proofs.Common.{◌≡◌, ℕ, ◌+◌, ◌<◌, ◌≤◌, Bool, true, false, cond, ltb, List, [], ◌∷◌, ◌++◌, length, set, is_some, Some, None, codes, Option, sym, refl, ap, ◌∙◌, ⊎_elim, arith}
 use Rattle.std.proofs.lemmas.Bool.{le-leb, lt-leb, cases_lt}
 use Rattle.model.specs.Receipt.{or_else}
 use Rattle.model.specs.Query.{path_length, step_length, filter_length}
@@ -9,7 +9,7 @@ use Rattle.names.specs.Sheet.{label_in}
 use Rattle.reader.specs.declared.draft.Draft.{Draft}
 use Rattle.reader.specs.declared.table.Part.{Part}
 use Rattle.reader.specs.declared.table.Tag.TheVariants.{Any, Named}
-use Rattle.reader.specs.Drafts.{part, added, counted, first_of, noted, entered, exited, root, joined_to, reached, labelled, joining, enclosed, test_drafted, step_axis, step_drafted, path_drafted, or_drafted, and_drafted, atom_drafted, linked, spine_drafted}
+use Rattle.reader.specs.Drafts.{part, added, counted, first_of, entered, exited, labelled, enclosed, test_drafted, step_axis, step_drafted, path_drafted, or_drafted, and_drafted, atom_drafted, linked, spine_drafted}
 use Rattle.query.specs.Answers.{test_names, path_names, step_names, or_names, and_names, atom_names, first_unknown}
 use Rattle.query.proofs.Built.{label}
 

@@ -1,9 +1,8 @@
 -- Whole: what the draft of a whole text says of its query, and the answer that follows.
-use Rattle.std.proofs.Common.{◌≡◌, ℕ, ◌+◌, ◌-◌, ◌*◌, ◌<◌, ◌≤◌, Bool, cond, List, [], ◌∷◌, ◌++◌, length, take, Some, None, sym, refl, ap, ◌∙◌, subst, ⊎_elim, append-nil, arith}
+use Rattle.std.proofs.Common.{◌≡◌, ℕ, ◌-◌, ◌*◌, ◌<◌, ◌≤◌, Bool, cond, List, [], ◌∷◌, ◌++◌, length, take, Some, None, sym, refl, ap, ◌∙◌, subst, ⊎_elim, append-nil, arith}
 use Rattle.std.proofs.lemmas.List.{nil_from_length, length-take-le}
 use Rattle.std.proofs.lemmas.Bool.{cases_lt, ne_eqb}
-use Rattle.model.specs.Query.{path_length}
-use Rattle.model.specs.Grammar.{PathTree, path_text, Reads, Query, Breaks}
+use Rattle.model.specs.Grammar.{PathTree, path_text, Breaks}
 use Rattle.grammar.specs.Machines.{dead, go, stops}
 use Rattle.grammar.specs.Machine.{axis, done, begin, run}
 use Rattle.grammar.proofs.Forward.{go_on}
@@ -15,12 +14,12 @@ use Rattle.query.specs.declared.QueryFault.TheVariants.{BadSize, Broken, TooDeep
 use Rattle.reader.specs.Spells.{Stops}
 use Rattle.reader.specs.Drafts.{started, spine_drafted}
 use Rattle.reader.specs.Table.{query, query_of, reading, piece_at, pieces}
-use Rattle.query.specs.Answers.{Sized, Sound, Accepted, Refused, deep_place, unknown_left, meaning, length_of, places}
+use Rattle.query.specs.Answers.{Sized, Sound, Accepted, Refused, deep_place, unknown_left, meaning, length_of}
 use Rattle.query.specs.Limits.{Tree, Limited, Copied}
 use Rattle.reader.proofs.Moves.{Not as IsNot}
 use Rattle.reader.proofs.Compose.{ParsedSpine}
 use Rattle.query.proofs.Built.{Ready, Built, query_built}
-use Rattle.query.proofs.Noted.{Noted, spine_noted}
+use Rattle.query.proofs.Noted.{spine_noted}
 use Rattle.query.proofs.Deep.{placed, deep_noted}
 
 -- The grammar's side.

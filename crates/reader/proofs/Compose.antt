@@ -1,5 +1,5 @@
 -- Compose: what a reader promises follows from what the readers that it calls promise.
-use Rattle.std.proofs.Common.{◌≡◌, ℕ, suc, ◌+◌, ◌-◌, ◌≤◌, Bool, true, false, cond, eqb, List, [], ◌∷◌, ◌++◌, length, get_or, take, Some, None, Ok, Err, codes, Option, Result, sym, refl, ap, ◌∙◌, append_assoc, arith, length-append, Bor}
+use Rattle.std.proofs.Common.{◌≡◌, ℕ, suc, ◌-◌, ◌≤◌, Bool, true, false, cond, eqb, List, [], ◌∷◌, ◌++◌, length, get_or, take, Some, None, Ok, Err, codes, Option, Result, sym, refl, ap, ◌∙◌, append_assoc, arith, length-append, Bor}
 use Rattle.std.proofs.lemmas.Bool.{ne_eqb, and_from, false≢true}
 use Rattle.std.proofs.lemmas.List.{take_at}
 use Rattle.model.specs.Names.{is_letter, is_name_byte, are_name_bytes}
@@ -16,8 +16,8 @@ use Rattle.reader.specs.declared.draft.Stuck.{Stuck}
 use Rattle.reader.specs.declared.draft.Draft.{Draft}
 use Rattle.reader.specs.declared.table.Tag.TheVariants.{Any, Filtered, Then, Along, And, Not, Step}
 use Rattle.reader.specs.Spells.{Takes, Stops}
-use Rattle.reader.specs.Drafts.{part, added, counted, noted, entered, exited, root, joined_to, reached, closed, labelled, joining, enclosed, test_drafted, step_axis, step_drafted, path_drafted, or_drafted, and_drafted, atom_drafted, linked, spine_drafted, joins_drafted}
-use Rattle.reader.specs.Parsed.{Parsed, Read, inside, NameRead, TestRead, StepRead, PathRead, SpineRead, FilterRead, AtomRead, JoinsRead, WordRead, Shut}
+use Rattle.reader.specs.Drafts.{part, added, counted, entered, exited, root, joined_to, reached, closed, labelled, joining, enclosed, test_drafted, step_axis, step_drafted, path_drafted, or_drafted, and_drafted, atom_drafted, linked, spine_drafted, joins_drafted}
+use Rattle.reader.specs.Parsed.{Parsed, inside, NameRead, PathRead, SpineRead, FilterRead, AtomRead, JoinsRead, Shut}
 use Rattle.reader.proofs.Moves.{Not as IsNot}
 
 -- a reading that stops after a part that leads to another state

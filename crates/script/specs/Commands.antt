@@ -1,5 +1,5 @@
 -- The lines of a task and what each asks for.
-use Rattle.std.specs.Prelude.{ℕ, ◌+◌, ◌-◌, ◌*◌, Bool, cond, ◌&&◌, List, [], ◌∷◌, length, Some, None, Option, ◌==◌, nat_le}
+use Rattle.std.specs.Prelude.{ℕ, ◌+◌, ◌-◌, ◌*◌, cond, ◌&&◌, List, [], ◌∷◌, length, Some, None, Option, ◌==◌, nat_le}
 use Rattle.model.specs.Names.{is_digit}
 use Rattle.model.specs.declared.action.Action.TheVariants.{Open, Close}
 use Rattle.script.specs.declared.Command.{Command}

@@ -1,7 +1,7 @@
 -- The walk from the last element up to the innermost open one.
-use Rattle.std.proofs.Common.{◌≡◌, ℕ, zero, suc, ◌+◌, ◌-◌, ◌<◌, ◌≤◌, false, cond, eqb, List, get_or, Some, None, Option, sym, refl, ap, ◌∙◌, ⊎_elim, arith, MatchOption}
+use Rattle.std.proofs.Common.{◌≡◌, ℕ, zero, suc, ◌+◌, ◌-◌, ◌<◌, ◌≤◌, false, List, Some, None, Option, sym, refl, ap, ◌∙◌, ⊎_elim, arith, MatchOption}
 use Rattle.std.proofs.lemmas.Bool.{cases_eq, cases_lt, ne_eqb, cond-false}
-use Rattle.model.specs.Receipt.{Element, Receipt, Lawful, absent, count_of, level_at, nearest, parent_of, last_where, same_rank, innermost, last_inside}
+use Rattle.model.specs.Receipt.{Element, Receipt, Lawful, count_of, level_at, nearest, parent_of, last_where, same_rank, innermost, last_inside}
 use Rattle.model.proofs.Relatives.{parent_some, between, nearest_is}
 use Rattle.model.proofs.Search.{last_none, last_is, apart_rank, same_rank_lem}
 

@@ -10,7 +10,7 @@ use Rattle.table.specs.declared.part.Tag.{Tag}
 use Rattle.table.specs.declared.part.Tag.TheVariants.{First, Any, Named, Filtered, Then, Along, And, Or, Not, Step}
 use Rattle.table.specs.declared.role.Role.{Role}
 use Rattle.table.specs.declared.role.Role.TheVariants.{Testing, Asking, Reaching, Going, Filtering, Starting}
-use Rattle.table.specs.Reading.{Asked, only, also, Piece, begins, asks, onward, path, filter, query, step_of, extended, asked_of, path_to, query_with, piece_at, tagged, pieces, part_at, tag_at, last_place, reading}
+use Rattle.table.specs.Reading.{Asked, only, also, Piece, begins, asks, onward, path, filter, query, step_of, asked_of, path_to, query_with, piece_at, tagged, pieces, part_at, tag_at, last_place, reading}
 use Rattle.table.specs.Formulas.{asked_formula, piece_formula, formula_at, formula_from, tag_formula, part_formula, ends_in_step, PartByPart}
 use Rattle.table.proofs.Pieces.{piece_is, extended_from}
 use Rattle.table.proofs.Seen.{taken, reached_of, start_of, taken_seen}

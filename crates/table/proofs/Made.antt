@@ -1,11 +1,11 @@
 -- Made: the query that a table reads as, by its last part and by what the parts count.
-use Rattle.std.proofs.Common.{◌≡◌, ℕ, ◌+◌, ◌-◌, ◌<◌, ◌≤◌, Bool, true, false, cond, ◌&&◌, leb, List, [], length, take, sym, refl, ap, ◌∙◌, ⊎_elim, arith, lit≤}
+use Rattle.std.proofs.Common.{◌≡◌, ℕ, ◌+◌, ◌-◌, ◌<◌, ◌≤◌, Bool, true, false, cond, ◌&&◌, leb, List, length, take, sym, refl, ap, ◌∙◌, ⊎_elim, arith, lit≤}
 use Rattle.std.proofs.lemmas.List.{length-take-le, take_all}
 use Rattle.std.proofs.lemmas.Bool.{and_from, and_parts, cases_Bool, cases_lt, cond-true, cond-false, le-leb, leb-true}
 use Rattle.model.specs.Limits.{most_length, most_parts, places}
 use Rattle.model.specs.Query.{Path, path_length}
 use Rattle.table.specs.declared.part.Part.{Part}
-use Rattle.table.specs.Reading.{itself, last_place, reading, pieces, piece_at, part_at}
+use Rattle.table.specs.Reading.{itself, last_place, reading}
 use Rattle.table.specs.Formulas.{ends_in_step}
 use Rattle.table.specs.Lawful.{LawfulQuery, path_labelled, parts_in, fit, checked_reading, EveryTableIsLawful, PastTheQueryNothingCounts}
 use Rattle.table.specs.Lengths.{path_cost, piece_cost, cost_at, capped}

@@ -11,7 +11,7 @@ use Rattle.table.specs.declared.role.Role.{Role}
 use Rattle.table.specs.declared.role.Role.TheVariants.{Testing, Asking, Reaching, Going, Filtering, Starting}
 use Rattle.table.specs.Sorts.{sort_of, serves}
 use Rattle.table.specs.Reading.{only, also, Piece, begins, asks, onward, path, filter, query, itself, test_of, asked_of, path_of, filter_of, piece_at, tagged, pieces, part_at, tag_at}
-use Rattle.table.specs.Formulas.{stand_in, found, seen}
+use Rattle.table.specs.Formulas.{stand_in, seen}
 use Rattle.table.proofs.Pieces.{piece_is, piece_stays, piece_none}
 
 abbrev sort_of_piece : Piece → Sort

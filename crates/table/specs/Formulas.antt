@@ -1,5 +1,5 @@
 -- Formulas: what each part of a table says, as evaluators work it out, part by part from the parts that it names.
-use Rattle.std.specs.Prelude.{◌≡◌, ℕ, ◌-◌, ◌<◌, ◌≤◌, Bool, true, cond, ◌&&◌, List, length, nat_lt}
+use Rattle.std.specs.Prelude.{◌≡◌, ℕ, ◌-◌, ◌<◌, ◌≤◌, Bool, cond, ◌&&◌, List, length, nat_lt}
 use Rattle.model.specs.Axes.{inverse}
 use Rattle.model.specs.Query.{any, named, Path}
 use Rattle.model.specs.Verdict.{Formula, test, first, conj, disj, neg, along, path_formula, filter_formula, query_formula}

@@ -1,5 +1,5 @@
 -- What the readers of single words and axes promise, in terms of the byte machine.
-use Rattle.std.specs.Prelude.{◌≡◌, ℕ, ◌+◌, ◌≤◌, ◌⊎◌, List, ◌++◌, length, Ok, Err, Result}
+use Rattle.std.specs.Prelude.{◌≡◌, ℕ, ◌≤◌, ◌⊎◌, List, ◌++◌, length, Ok, Err, Result}
 use Rattle.std.specs.Borrow.{Bor}
 use Rattle.model.specs.Grammar.{axis_text}
 use Rattle.grammar.specs.Machines.{stops}

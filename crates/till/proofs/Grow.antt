@@ -1,14 +1,14 @@
 -- A table that tells a receipt, once a record is attached, tells the opened receipt, and its links are that one's.
-use Rattle.std.proofs.Common.{◌≡◌, ℕ, zero, suc, ◌+◌, ◌-◌, ◌<◌, ◌≤◌, ◌⊎◌, List, [], ◌∷◌, ◌++◌, map, length, get_or, take, set, IfSome, Some, None, Option, sym, refl, ap, ◌∙◌, subst, inl, inr, ⊎_elim, add-one, arith, length-set, get_or-set_other, get_or-set_same, take-suc-set}
+use Rattle.std.proofs.Common.{◌≡◌, ℕ, ◌+◌, ◌<◌, ◌≤◌, List, [], ◌∷◌, ◌++◌, map, length, get_or, take, set, IfSome, Some, None, Option, sym, refl, ap, ◌∙◌, subst, ⊎_elim, add-one, arith, length-set, get_or-set_other, get_or-set_same, take-suc-set}
 use lib.ListN.{length-map}
 use lib.Seq.{map-set, map-set_same}
-use Rattle.std.proofs.lemmas.Bool.{cases_eq, cases_lt}
+use Rattle.std.proofs.lemmas.Bool.{cases_eq}
 use Rattle.std.proofs.lemmas.List.{get_or-take, get_or-map, length-take-le}
 use Rattle.model.specs.Limits.{most_elements, most_label, most_depth}
-use Rattle.model.specs.Receipt.{Element, Receipt, Lawful, absent, count_of, level_at, label_at, parent_of, first_child_of, next_sibling_of, previous_sibling_of, innermost, last_inside, opened}
+use Rattle.model.specs.Receipt.{Element, Receipt, Lawful, absent, count_of, innermost, last_inside, opened}
 use Rattle.model.proofs.Relatives.{nearest_some}
 use Rattle.model.proofs.Search.{last_some}
-use Rattle.model.proofs.Opening.{count_more, level_old, element_old, level_new, parent_old, parent_new, prev_old, prev_new, first_at, first_else, first_of_new, next_at, next_else, next_of_new, opened_lawful}
+use Rattle.model.proofs.Opening.{parent_old, parent_new, prev_old, prev_new, first_at, first_else, first_of_new, next_at, next_else, next_of_new, opened_lawful}
 use Rattle.till.specs.declared.link.Link.{Link}
 use Rattle.till.specs.declared.Till.{Till}
 use Rattle.till.specs.Links.{unused, element, told, mark, Fits, Linked, Reads, informed, attached, with_next, with_child}

@@ -1,8 +1,6 @@
 -- A table of link records, the receipt that it tells, and when its links are that receipt's.
-use Rattle.std.specs.Prelude.{◌≡◌, ℕ, ◌+◌, ◌<◌, ◌≤◌, List, map, get_or, take, Some, None, Option, slice_index_or, slice_set}
-use Rattle.std.proofs.Common.{arith}
-use Rattle.model.specs.Limits.{most_elements, most_label, most_depth}
-use Rattle.model.specs.Receipt.{Element, Receipt, Lawful, count_of, level_at, label_at, parent_of, first_child_of, next_sibling_of, previous_sibling_of}
+use Rattle.std.specs.Prelude.{◌≡◌, ℕ, ◌+◌, ◌<◌, List, map, get_or, take, Some, None, Option, slice_index_or, slice_set}
+use Rattle.model.specs.Receipt.{Element, Receipt, level_at, label_at, parent_of, first_child_of, next_sibling_of, previous_sibling_of}
 use Rattle.till.specs.declared.link.Link.{Link}
 
 -- what stands in a place that no element has taken

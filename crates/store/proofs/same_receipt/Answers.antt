@@ -1,4 +1,4 @@
-use Rattle.std.proofs.Common.{◌≡◌, refl, arith}
+use Rattle.std.proofs.Common.{refl, arith}
 use Rattle.store.proofs.Same.{same_receipt}
 use Rattle.store.proofs.same_receipt.Goals as goal
 

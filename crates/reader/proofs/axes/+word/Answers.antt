@@ -1,4 +1,4 @@
-use Rattle.std.proofs.Common.{◌-◌, get_or, rules}
+use Rattle.std.proofs.Common.{get_or, rules}
 use Rattle.reader.proofs.Moves.{front, spells_none, spells_more, spells_not}
 use Rattle.reader.proofs.axes.+word.Goals as goal
 

@@ -1,4 +1,4 @@
-use Rattle.std.proofs.Common.{◌-◌, length, get_or, Ok, Err, arith, rules}
+use Rattle.std.proofs.Common.{length, get_or, Ok, Err, rules}
 use Rattle.text_reader.proofs.Moves.{front, spells_none, spells_more, spells_not}
 use Rattle.text_reader.proofs.axes.word.Goals as goal
 

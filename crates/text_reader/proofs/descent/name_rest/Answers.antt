@@ -1,4 +1,4 @@
-use Rattle.std.proofs.Common.{◌≡◌, suc, ◌-◌, length, get_or, Ok, Err, sym, ◌∙◌, arith, rules}
+use Rattle.std.proofs.Common.{◌≡◌, suc, ◌-◌, length, get_or, Ok, Err, arith, rules}
 use Rattle.text_reader.proofs.Moves.{front}
 use Rattle.text_reader.proofs.Compose.{name_more, name_ends}
 use Rattle.text_reader.proofs.descent.name_rest.Goals as goal

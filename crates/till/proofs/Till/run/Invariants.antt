@@ -1,4 +1,4 @@
-use Rattle.std.proofs.Common.{◌≡◌, ℕ, ◌+◌, ◌≤◌, List, length, drop}
+use Rattle.std.proofs.Common.{◌≡◌, ◌+◌, ◌≤◌, length, drop}
 use Rattle.model.specs.Runs.{after, accepted}
 use Rattle.till.specs.Held.{receipt_of}
 use Rattle.till.proofs.Till.run.Given as goal

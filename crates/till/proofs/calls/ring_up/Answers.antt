@@ -1,4 +1,4 @@
-use Rattle.std.proofs.Common.{List, ap, ◌∙◌}
+use Rattle.std.proofs.Common.{ap, ◌∙◌}
 use Rattle.model.specs.Receipt.{empty}
 use Rattle.model.specs.Runs.{after}
 use Rattle.model.proofs.Runs.{after_accepted}

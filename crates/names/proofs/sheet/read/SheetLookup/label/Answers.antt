@@ -1,4 +1,4 @@
-use Rattle.std.proofs.Common.{ℕ, ◌≤◌, None, Option, sym, ◌∙◌, subst, arith}
+use Rattle.std.proofs.Common.{◌≤◌, None, Option, sym, ◌∙◌, subst, arith}
 use Rattle.names.specs.Sheet.{most_names}
 use Rattle.names.specs.declared.NamesFault.{NamesFault}
 use Rattle.names.specs.Labels.{InRange, names_among}
