@@ -66,8 +66,8 @@ left_lits [] s t x = (t, refl, x)
 left_lits (c ∷ w) s t x = x
 
 -- an axis, and what follows it
-path_from_lem : (a : Axis) (fs : List Frame) (t v : List ℕ) → t ≡ axis_text a ++ v → LTest fs v → Left (axis fs) t
-path_from_lem a fs t v e (x, v1, e1, (h, v2, e2, (l, v3, e3, d))) = (
+path_from : (a : Axis) (fs : List Frame) (t v : List ℕ) → t ≡ axis_text a ++ v → LTest fs v → Left (axis fs) t
+path_from a fs t v e (x, v1, e1, (h, v2, e2, (l, v3, e3, d))) = (
   mk_path (mk_step a x h) l,
   v3,
   e ∙ ap (λ (y : List ℕ). axis_text a ++ y) (e1 ∙ ap (λ (y : List ℕ). test_text x ++ y) (e2 ∙ ap (λ (y : List ℕ). hold_text h ++ y) e3)) ∙ regroup (axis_text a) (test_text x) (hold_text h) (tail_text l) v3 ∙ sym (ap (λ (y : List ℕ). y ++ v3) (path_is (mk_step a x h) l ∙ ap (λ (y : List ℕ). y ++ tail_text l) (step_is a x h))),
@@ -88,16 +88,16 @@ after b c w t v u e h k = cons b c t (w ++ u) e (h ∙ ap (λ (y : List ℕ). w 
 
 on_axis_lem : (fs : List Frame) (b : ℕ) (t : List ℕ) → Sound (axis fs) b t (on_axis fs b)
 on_axis_lem fs b t =
-    if (axis fs) b t (eqb b 115) _ _ (λ e x. let y = left_lits (codes "elf::") (test fs) t x in path_from_lem Itself fs (b ∷ t) y.0 (cons b 115 _ _ e y.1) y.2)
-    (if (axis fs) b t (eqb b 99) _ _ (λ e x. let y = left_lits (codes "hild::") (test fs) t x in path_from_lem Child fs (b ∷ t) y.0 (cons b 99 _ _ e y.1) y.2)
+    if (axis fs) b t (eqb b 115) _ _ (λ e x. let y = left_lits (codes "elf::") (test fs) t x in path_from Itself fs (b ∷ t) y.0 (cons b 115 _ _ e y.1) y.2)
+    (if (axis fs) b t (eqb b 99) _ _ (λ e x. let y = left_lits (codes "hild::") (test fs) t x in path_from Child fs (b ∷ t) y.0 (cons b 99 _ _ e y.1) y.2)
     (if (axis fs) b t (eqb b 112) _ _
-    (λ e x. elim x.1 [ inl k ↦ path_from_lem Parent fs (b ∷ t) x.0 (cons b 112 _ _ e k) x.2 | inr z ↦ elim z [ inl k ↦ path_from_lem Preceding fs (b ∷ t) x.0 (cons b 112 _ _ e k) x.2 | inr k ↦ path_from_lem PrecedingSibling fs (b ∷ t) x.0 (cons b 112 _ _ e k) x.2 ] ])
+    (λ e x. elim x.1 [ inl k ↦ path_from Parent fs (b ∷ t) x.0 (cons b 112 _ _ e k) x.2 | inr z ↦ elim z [ inl k ↦ path_from Preceding fs (b ∷ t) x.0 (cons b 112 _ _ e k) x.2 | inr k ↦ path_from PrecedingSibling fs (b ∷ t) x.0 (cons b 112 _ _ e k) x.2 ] ])
     (if (axis fs) b t (eqb b 100) _ _
-    (λ e x. let y = left_lits (codes "escendant") (or_self fs) t x in elim y.2.1 [ inl k ↦ path_from_lem Descendant fs (b ∷ t) y.2.0 (after b 100 (codes "escendant") t y.0 _ e y.1 k) y.2.2 | inr k ↦ path_from_lem DescendantOrSelf fs (b ∷ t) y.2.0 (after b 100 (codes "escendant") t y.0 _ e y.1 k) y.2.2 ])
+    (λ e x. let y = left_lits (codes "escendant") (or_self fs) t x in elim y.2.1 [ inl k ↦ path_from Descendant fs (b ∷ t) y.2.0 (after b 100 (codes "escendant") t y.0 _ e y.1 k) y.2.2 | inr k ↦ path_from DescendantOrSelf fs (b ∷ t) y.2.0 (after b 100 (codes "escendant") t y.0 _ e y.1 k) y.2.2 ])
     (if (axis fs) b t (eqb b 97) _ _
-    (λ e x. let y = left_lits (codes "ncestor") (or_self fs) t x in elim y.2.1 [ inl k ↦ path_from_lem Ancestor fs (b ∷ t) y.2.0 (after b 97 (codes "ncestor") t y.0 _ e y.1 k) y.2.2 | inr k ↦ path_from_lem AncestorOrSelf fs (b ∷ t) y.2.0 (after b 97 (codes "ncestor") t y.0 _ e y.1 k) y.2.2 ])
+    (λ e x. let y = left_lits (codes "ncestor") (or_self fs) t x in elim y.2.1 [ inl k ↦ path_from Ancestor fs (b ∷ t) y.2.0 (after b 97 (codes "ncestor") t y.0 _ e y.1 k) y.2.2 | inr k ↦ path_from AncestorOrSelf fs (b ∷ t) y.2.0 (after b 97 (codes "ncestor") t y.0 _ e y.1 k) y.2.2 ])
     (if (axis fs) b t (eqb b 102) _ _
-    (λ e x. let y = left_lits (codes "ollowing") (or_sibling fs) t x in elim y.2.1 [ inl k ↦ path_from_lem Following fs (b ∷ t) y.2.0 (after b 102 (codes "ollowing") t y.0 _ e y.1 k) y.2.2 | inr k ↦ path_from_lem FollowingSibling fs (b ∷ t) y.2.0 (after b 102 (codes "ollowing") t y.0 _ e y.1 k) y.2.2 ])
+    (λ e x. let y = left_lits (codes "ollowing") (or_sibling fs) t x in elim y.2.1 [ inl k ↦ path_from Following fs (b ∷ t) y.2.0 (after b 102 (codes "ollowing") t y.0 _ e y.1 k) y.2.2 | inr k ↦ path_from FollowingSibling fs (b ∷ t) y.2.0 (after b 102 (codes "ollowing") t y.0 _ e y.1 k) y.2.2 ])
     tt)))))
 
 on_shut_lem : (fs : List Frame) (b : ℕ) (t : List ℕ) → Sound (shut fs) b t (on_shut fs b)

@@ -34,12 +34,12 @@ abbrev mutual
 abbrev pub step_from : Formula → Step → Formula
 step_from before s = conj (step_here s) (along (inverse (axis_of s)) before)
 
-abbrev pub path_from_lem : Formula → Path → Formula
-path_from_lem before (last s) = step_from before s
-path_from_lem before (then s p) = path_from_lem (step_from before s) p
+abbrev pub path_from : Formula → Path → Formula
+path_from before (last s) = step_from before s
+path_from before (then s p) = path_from (step_from before s) p
 
 abbrev pub query_formula : Path → Formula
-query_formula q = path_from_lem first q
+query_formula q = path_from first q
 
 -- A verdict kind: what is in, out and unseen, and how verdicts are joined.
 pub record Kind : Type 1 where

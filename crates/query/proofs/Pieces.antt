@@ -4,7 +4,7 @@ use Rattle.std.proofs.lemmas.List.{length-append, length-take-le, get_or_append_
 use Rattle.model.specs.Receipt.{Receipt}
 use Rattle.model.specs.Query.{Path, last, then, Step}
 use Rattle.model.specs.Selection.{Set, path_keeps, step_keeps}
-use Rattle.model.specs.Verdict.{Formula, path_from_lem, step_from}
+use Rattle.model.specs.Verdict.{Formula, path_from, step_from}
 use Rattle.reader.specs.declared.table.Part.{Part}
 use Rattle.reader.specs.Table.{Piece, begins, extended, piece_at, piece_of, pieces_after, pieces}
 use Rattle.query.specs.Formulas.{part_at}
@@ -56,6 +56,6 @@ pub extended_keeps : (r : Receipt) (q : Path) (s : Step) (from : Set) → path_k
 extended_keeps r (last t) s from = refl
 extended_keeps r (then t q) s from = extended_keeps r q s (step_keeps r t from)
 
-pub extended_from : (f : Formula) (q : Path) (s : Step) → path_from_lem f (extended q s) ≡ step_from (path_from_lem f q) s
+pub extended_from : (f : Formula) (q : Path) (s : Step) → path_from f (extended q s) ≡ step_from (path_from f q) s
 extended_from f (last t) s = refl
 extended_from f (then t q) s = extended_from (step_from f t) q s

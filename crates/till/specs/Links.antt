@@ -1,5 +1,5 @@
 -- A table of link records, the receipt that it tells, and when its links are that receipt's.
-use Rattle.std.specs.Prelude.{◌≡◌, ℕ, ◌+◌, ◌<◌, List, map, get_or, take, Some, None, Option, slice_index_or, slice_set}
+use Rattle.std.specs.Prelude.{◌≡◌, ℕ, ◌+◌, ◌<◌, List, map, take, Some, None, Option, slice_index_or, slice_set}
 use Rattle.model.specs.Receipt.{Element, Receipt, level_at, label_at, parent_of, first_child_of, next_sibling_of, previous_sibling_of}
 use Rattle.till.specs.declared.link.Link.{Link}
 
@@ -29,7 +29,7 @@ Linked ls n d = (i : ℕ) → i < n → Fits (told ls n d) i (slice_index_or ls 
 
 -- each record's level and label are its element's
 abbrev pub Reads : List Link → ℕ → ℕ → Type 0
-Reads ls n d = (i : ℕ) → i < n → (level_at (told ls n d) i ≡ (get_or ls i unused).level) × (label_at (told ls n d) i ≡ (get_or ls i unused).label)
+Reads ls n d = (i : ℕ) → i < n → (level_at (told ls n d) i ≡ (slice_index_or ls i unused).level) × (label_at (told ls n d) i ≡ (slice_index_or ls i unused).label)
 
 abbrev pub with_next : Link → ℕ → Link
 with_next l n = record { label = l.label; level = l.level; parent = l.parent; child = l.child; next = Some n; previous = l.previous }

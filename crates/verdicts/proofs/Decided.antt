@@ -7,7 +7,7 @@ use Rattle.model.specs.Receipt.{Receipt, count_of}
 use Rattle.model.specs.Axes.{leads, grows, inverse, is_forward, is_backward}
 use Rattle.model.specs.Query.{Path, last, then, Step, plain, filtered, Filter, holds, both, either, negated, axis_of}
 use Rattle.model.specs.Selection.{passes}
-use Rattle.model.specs.Verdict.{Formula, test, first, conj, disj, neg, along, step_here, path_formula, filter_formula, step_from, path_from_lem, query_formula, verdict, three}
+use Rattle.model.specs.Verdict.{Formula, test, first, conj, disj, neg, along, step_here, path_formula, filter_formula, step_from, path_from, query_formula, verdict, three}
 use Rattle.verdicts.specs.Forward.{backward_path, backward_step, backward_filter, forward_step, forward_path}
 use Rattle.verdicts.proofs.Threes.{Decided, decided_plain, decided_and, decided_or, decided_opposite, decided_over}
 
@@ -79,7 +79,7 @@ module _ (P : Axis → Type 0) (backward : (a : Axis) → is_backward a ≡ true
   back_step (plain a t) before e b = (record {}, (inverse_backward a e, b))
   back_step (filtered a t f) before e b = let d = and_parts (is_forward a) (backward_filter f) e in ((record {}, along_filter f d.1), (inverse_backward a d.0, b))
 
-  back_path : (p : Path) (before : Formula) → forward_path p ≡ true → EachAxis P before → EachAxis P (path_from_lem before p)
+  back_path : (p : Path) (before : Formula) → forward_path p ≡ true → EachAxis P before → EachAxis P (path_from before p)
   back_path (last s) before e b = back_step s before e b
   back_path (then s p) before e b = let d = and_parts (forward_step s) (forward_path p) e in back_path p (step_from before s) d.1 (back_step s before d.0 b)
 

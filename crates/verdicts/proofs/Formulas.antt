@@ -6,7 +6,7 @@ use Rattle.model.specs.Receipt.{Receipt, count_of}
 use Rattle.model.specs.Axes.{leads, inverse, grows}
 use Rattle.model.specs.Query.{Test, Path, last, then, Step, plain, filtered, Filter, holds, both, either, negated, axis_of}
 use Rattle.model.specs.Selection.{Set, some_below, passes, reached, alone, path_keeps, step_keeps, filter_holds, start, selects}
-use Rattle.model.specs.Verdict.{Formula, test, first, conj, disj, neg, along, step_here, path_formula, filter_formula, step_from, path_from_lem, plainly, or_over, verdict, yes_no}
+use Rattle.model.specs.Verdict.{Formula, test, first, conj, disj, neg, along, step_here, path_formula, filter_formula, step_from, path_from, plainly, or_over, verdict, yes_no}
 use Rattle.plane.proofs.Steady.{leads_inverse}
 use Rattle.verdicts.specs.Laws.{FormulaIsSelection}
 use Rattle.verdicts.proofs.SomeBelow.{some_cong, some_alone, some_swap}
@@ -102,7 +102,7 @@ module _ (r : Receipt) where
       ∙ ap (λ b. says (step_here s) y && b) (says_back (axis_of s) from before e y)
       ∙ sym (says_conj (step_here s) (along (inverse (axis_of s)) before) y)
 
-  path_back : (p : Path) (from : Set) (before : Formula) → ((x : ℕ) → x < count_of r → from x ≡ says before x) → (y : ℕ) → y < count_of r → path_keeps r p from y ≡ says (path_from_lem before p) y
+  path_back : (p : Path) (from : Set) (before : Formula) → ((x : ℕ) → x < count_of r → from x ≡ says before x) → (y : ℕ) → y < count_of r → path_keeps r p from y ≡ says (path_from before p) y
   path_back (last s) from before e y h = step_back s from before e y h
   path_back (then s p) from before e y h = path_back p (step_keeps r s from) (step_from before s) (step_back s from before e) y h
 

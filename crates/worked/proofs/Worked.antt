@@ -47,7 +47,7 @@ pub worked_receipt : WorkedReceipt
 unfolding nearest is_among how_many size post is_open leads grows roll_of some_below selects or_over verdict listed
 worked_receipt = record {
   lawful = (continues_run (actions_of sale) empty empty_lawful).lawful;
-  rung_up_lem = refl;
+  is_rung_up = refl;
   post_ranks = refl;
   roll = refl;
   lines_of_groups = record { tree = lines_of_groups; reads = refl; shows = refl; audits = refl };

@@ -56,7 +56,7 @@ pub record Answers (r : Receipt) (text : List ℕ) (shown : List Entry) (audited
 
 pub record WorkedReceipt : Type 0 where
   pub lawful : Lawful worked
-  pub rung_up_lem : rung_up sale ≡ worked
+  pub is_rung_up : rung_up sale ≡ worked
   pub post_ranks : map (post worked) (0 ∷ 1 ∷ 2 ∷ 3 ∷ 4 ∷ 5 ∷ 6 ∷ []) ≡ 6 ∷ 2 ∷ 0 ∷ 1 ∷ 5 ∷ 3 ∷ 4 ∷ []
   pub roll : roll_of worked
       ≡ 0x01 ∷ 0x02 ∷ 0x00 ∷ 0x07 ∷ 0x00 ∷ 0x08 ∷ 0x00 ∷ 0x0F ∷ 0x00 ∷ 0x01 ∷ 0x02 ∷ 0x02 ∷ 0x01 ∷ 0x02 ∷ 0x02 ∷ 0x01 ∷ 0x02 ∷ 0x03 ∷ 0x03 ∷ 0x02 ∷ 0x03 ∷ 0x04 ∷ []
