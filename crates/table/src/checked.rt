@@ -40,7 +40,7 @@ fn query_end(table: &[Part]) -> Option<usize>
     if table.len() == 0 {
         return None;
     }
-    let last = table[0].first as usize;
+    let last = table[0].first;
     if last >= table.len() || last >= MOST_PARTS {
         return None;
     }

@@ -23,25 +23,24 @@ fn stand_in_cost(role: Role) -> usize
 }
 
 // What the part at place j counts, seen from place i.
-fn share(parts: &[Part], costs: &[usize; MOST_PARTS], i: usize, j: u16, role: Role) -> usize
+fn share(parts: &[Part], costs: &[usize; MOST_PARTS], i: usize, j: usize, role: Role) -> usize
     requires within { i ≤ length parts.now }
     requires room { i ≤ most_parts }
     requires costed { Costed parts.now costs.now i }
     ensures { result ≡ capped (cost_from role parts.now i j) }
 {
-    let at = j as usize;
-    if at < i && parts[at].tag.sort().serves(role) {
-        costs[at]
+    if j < i && parts[j].tag.sort().serves(role) {
+        costs[j]
     } else {
         stand_in_cost(role)
     }
 }
 
 // A label that no element can have counts too much.
-fn label_cost(label: u16) -> usize
+fn label_cost(label: usize) -> usize
     ensures { result ≡ capped (test_cost (named label)) }
 {
-    if label >= 1 && label <= MOST_LABEL {
+    if label >= 1 && label <= MOST_LABEL as usize {
         0
     } else {
         TOO_MUCH

@@ -29,8 +29,8 @@ pub enum Tag {
 #[derive(Clone, Copy, PartialEq, Eq, Debug)]
 pub struct Part {
     pub tag: Tag,
-    pub first: u16,
-    pub second: u16,
+    pub first: usize,
+    pub second: usize,
 }
 
 impl Part {
