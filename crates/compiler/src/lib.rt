@@ -13,7 +13,7 @@ ghost use Rattle.compiler.specs.Refusals.{query_refusal, query_sentence};
 use model::fault::{Described, Fault, Layer, Refusal};
 use model::limits::{MOST_LENGTH, MOST_TEXT};
 use names::NamesFault;
-use names::lookup::Lookup;
+use names::lookup::{Lookup, Naming};
 use names::sheet::Sheet;
 use table::part::{Part, Tag};
 use text_reader::descent::spine;
@@ -76,7 +76,7 @@ impl Described for QueryFault {
 }
 
 // Reads the whole text into the draft, or answers where the grammar is broken.
-fn parse<N: Lookup>(text: &[u8], names: &N, draft: &mut Draft) -> Option<usize>
+fn parse<N: Naming>(text: &[u8], names: &N, draft: &mut Draft) -> Option<usize>
     ensures { Drafted text.now (N.labels names.now) draft.old draft.new result }
 {
     match text {
@@ -126,7 +126,7 @@ fn copy(draft: &Draft, table: &mut [Part])
     requires room { draft.now.used ≤ length table.old }
     ensures { Copied draft.now.used draft.now.parts table.old table.new }
 {
-    let used = draft.used as usize;
+    let used = draft.used;
     for i in 0..used {
         table[i] = draft.parts[i];
     }

@@ -5,7 +5,7 @@
 mod tests {
     use compiler::{QueryFault, compile};
     use model::axis::Axis;
-    use names::lookup::Lookup;
+    use names::lookup::Naming;
     use names::sheet::Sheet;
     use names::{NamesFault, check as check_sheet};
     use std::process::Abort;
@@ -144,7 +144,7 @@ mod tests {
         Ok(())
     }
 
-    fn part(tag: Tag, first: u16, second: u16) -> Part {
+    fn part(tag: Tag, first: usize, second: usize) -> Part {
         Part { tag, first, second }
     }
 

@@ -6,7 +6,7 @@ use crate::axes::{read_axis, word};
 use crate::draft::{Draft, Stuck};
 use crate::drafting::{add, close, count, enter, join, leave, note, over, root};
 use model::axis::Axis;
-use names::lookup::Lookup;
+use names::lookup::Naming;
 use names::{MOST_NAME, is_letter, is_name_byte};
 use table::part::{Part, Tag};
 
@@ -37,7 +37,7 @@ fn name_rest(text: &[u8], room: usize) -> Result<&[u8], Stuck>
 }
 
 // "*" or a name.
-fn test<'a, N: Lookup>(text: &'a [u8], names: &N, draft: &mut Draft) -> Result<&'a [u8], Stuck>
+fn test<'a, N: Naming>(text: &'a [u8], names: &N, draft: &mut Draft) -> Result<&'a [u8], Stuck>
     ensures { TestRead (N.labels names.now) text.now draft.old draft.new result }
 {
     match text {
@@ -110,7 +110,7 @@ fn join_word(text: &[u8]) -> Result<(Word, &[u8]), Stuck>
 
 // An axis, a test and at most one filter.
 #[cycle(atom_filter_joins_path_step)]
-fn step<'a, N: Lookup>(
+fn step<'a, N: Naming>(
     text: &'a [u8],
     names: &N,
     draft: &mut Draft,
@@ -136,7 +136,7 @@ fn step<'a, N: Lookup>(
 
 // A path in a filter: steps joined by "/".
 #[cycle(atom_filter_joins_path_step)]
-fn path<'a, N: Lookup>(text: &'a [u8], names: &N, draft: &mut Draft) -> Result<&'a [u8], Stuck>
+fn path<'a, N: Naming>(text: &'a [u8], names: &N, draft: &mut Draft) -> Result<&'a [u8], Stuck>
     ensures { PathRead (N.labels names.now) text.now draft.old draft.new result }
 {
     let (axis, rest) = step(text, names, draft)?;
@@ -157,7 +157,7 @@ fn path<'a, N: Lookup>(text: &'a [u8], names: &N, draft: &mut Draft) -> Result<&
 
 // A path, "(" and a filter and ")", or "not(" and a filter and ")".
 #[cycle(atom_filter_joins_path_step)]
-fn atom<'a, N: Lookup>(text: &'a [u8], names: &N, draft: &mut Draft) -> Result<&'a [u8], Stuck>
+fn atom<'a, N: Naming>(text: &'a [u8], names: &N, draft: &mut Draft) -> Result<&'a [u8], Stuck>
     ensures { AtomRead (N.labels names.now) text.now draft.old draft.new result }
 {
     match text {
@@ -183,7 +183,7 @@ fn atom<'a, N: Lookup>(text: &'a [u8], names: &N, draft: &mut Draft) -> Result<&
 
 // An atom and what is joined to it.
 #[cycle(atom_filter_joins_path_step)]
-fn filter<'a, N: Lookup>(text: &'a [u8], names: &N, draft: &mut Draft) -> Result<&'a [u8], Stuck>
+fn filter<'a, N: Naming>(text: &'a [u8], names: &N, draft: &mut Draft) -> Result<&'a [u8], Stuck>
     ensures { FilterRead (N.labels names.now) text.now draft.old draft.new result }
 {
     let rest = atom(text, names, draft)?;
@@ -192,11 +192,11 @@ fn filter<'a, N: Lookup>(text: &'a [u8], names: &N, draft: &mut Draft) -> Result
 
 // What is joined to the last atom. An `and` is joined at once; the left side of an `or` waits until its right side is complete.
 #[cycle(atom_filter_joins_path_step)]
-fn joins<'a, N: Lookup>(
+fn joins<'a, N: Naming>(
     text: &'a [u8],
     names: &N,
     draft: &mut Draft,
-    waiting: Option<u16>,
+    waiting: Option<usize>,
 ) -> Result<&'a [u8], Stuck>
     ensures { JoinsRead (N.labels names.now) waiting text.now draft.old draft.new result }
 {
@@ -228,7 +228,7 @@ fn joins<'a, N: Lookup>(
 }
 
 // The query's own path: each step is joined with the query before it.
-pub fn spine<'a, N: Lookup>(text: &'a [u8], names: &N, draft: &mut Draft) -> Result<&'a [u8], Stuck>
+pub fn spine<'a, N: Naming>(text: &'a [u8], names: &N, draft: &mut Draft) -> Result<&'a [u8], Stuck>
     ensures { SpineRead (N.labels names.now) text.now draft.old draft.new result }
 {
     let before = root(draft);

@@ -15,7 +15,7 @@ pub struct Stuck {
 pub struct Draft {
     pub parts: [Part; MOST_PARTS],
     // How many parts are written; what finds no room is dropped.
-    pub used: u16,
+    pub used: usize,
     // The length so far; one more than the greatest stands for all above.
     pub count: usize,
     // How many bytes are left from the first unknown name on.

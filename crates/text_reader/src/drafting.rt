@@ -7,7 +7,7 @@ use model::limits::{MOST_LENGTH, MOST_OPEN, MOST_PARTS};
 use table::part::{Part, Tag};
 
 // The place of the part that was written last.
-pub fn root(draft: &Draft) -> u16
+pub fn root(draft: &Draft) -> usize
     ensures { result ≡ draft.now.used - 1 }
 {
     draft.used.saturating_sub(1)
@@ -16,7 +16,7 @@ pub fn root(draft: &Draft) -> u16
 pub fn add(draft: &mut Draft, part: Part)
     ensures { draft.new ≡ added part draft.old }
 {
-    let at = draft.used as usize;
+    let at = draft.used;
     if at < MOST_PARTS {
         draft.parts[at] = part;
         draft.used += 1;
@@ -64,7 +64,7 @@ pub fn leave(draft: &mut Draft)
 }
 
 // Joins the part at `first` with the last one.
-pub fn join(draft: &mut Draft, tag: Tag, first: u16)
+pub fn join(draft: &mut Draft, tag: Tag, first: usize)
     ensures { draft.new ≡ joined_to tag first draft.old }
 {
     let second = root(draft);
@@ -87,7 +87,7 @@ pub fn over(draft: &mut Draft, tag: Tag)
 }
 
 // Joins what waits at the left of an `or`, if anything, with the last part.
-pub fn close(draft: &mut Draft, waiting: Option<u16>)
+pub fn close(draft: &mut Draft, waiting: Option<usize>)
     ensures { draft.new ≡ closed waiting draft.old }
 {
     match waiting {

@@ -10,7 +10,7 @@ use Rattle.compiler.proofs.compile_with.Goals as goal
 pub copy-requires : goal.copy-requires
 copy-requires g c =
     let t = c.args.text.now in
-    let labels = g.N.Lookup.labels c.args.names.now in
+    let labels = g.N.Naming.labels c.args.names.now in
     let d = c.parse.new.draft in
     let k : Tree t labels started d = from_start t labels c.start-draft.result d c.start-draft.ensures c.in-None.ensures in
     let r = room t labels (length c.args.table.now) d k c.in-None-limit.ensures in
@@ -19,7 +19,7 @@ copy-requires g c =
 pub returns-then-text-eq0 : goal.returns-then-text-eq0
 returns-then-text-eq0 g c =
     let t = c.args.text.now in
-    let labels = g.N.Lookup.labels c.args.names.now in
+    let labels = g.N.Naming.labels c.args.names.now in
     let table = c.args.table.now in
     let a : Answered t labels table table (Err BadSize) = (refl, λ s. ⊎_elim (λ h. omega (arith, s.some)) (λ h. omega (arith, s.few, h.1)) c.then-text-eq0.either) in
     let e = exactly t labels table table (Err BadSize) a in
@@ -28,7 +28,7 @@ returns-then-text-eq0 g c =
 pub returns-in-Some : goal.returns-in-Some
 returns-in-Some g c =
     let t = c.args.text.now in
-    let labels = g.N.Lookup.labels c.args.names.now in
+    let labels = g.N.Naming.labels c.args.names.now in
     let table = c.args.table.now in
     let z = c.if-text-eq0.false in
     let s : Sized t = record { some = omega arith; few = omega arith } in
@@ -39,7 +39,7 @@ returns-in-Some g c =
 pub returns-in-Some-limit : goal.returns-in-Some-limit
 returns-in-Some-limit g c =
     let t = c.args.text.now in
-    let labels = g.N.Lookup.labels c.args.names.now in
+    let labels = g.N.Naming.labels c.args.names.now in
     let table = c.args.table.now in
     let d = c.parse.new.draft in
     let k : Tree t labels started d = from_start t labels c.start-draft.result d c.start-draft.ensures c.in-None.ensures in
@@ -53,13 +53,13 @@ returns-in-Some-limit g c =
 pub returns-in-None-limit : goal.returns-in-None-limit
 returns-in-None-limit g c =
     let t = c.args.text.now in
-    let labels = g.N.Lookup.labels c.args.names.now in
+    let labels = g.N.Naming.labels c.args.names.now in
     let table = c.args.table.now in
     let new = c.copy.new.table in
     let d = c.parse.new.draft in
     let k : Tree t labels started d = from_start t labels c.start-draft.result d c.start-draft.ensures c.in-None.ensures in
     let z = c.if-text-eq0.false in
     let s : Sized t = record { some = omega arith; few = omega arith } in
-    let a : Answered t labels table new (Ok d.count) = accepted t labels (g.N.Lookup.ranged c.args.names.now) table new d s k c.in-None-limit.ensures c.copy.ensures in
+    let a : Answered t labels table new (Ok d.count) = accepted t labels (g.met.N.Lookup.ranged c.args.names.now) table new d s k c.in-None-limit.ensures c.copy.ensures in
     let e = exactly t labels table new (Ok d.count) a in
     record { answers = a; only = e.only; written = e.written }

@@ -4,10 +4,10 @@ use Rattle.compiler.proofs.Whole.{parsed_whole, parsed_part, parsed_stuck, parse
 use Rattle.compiler.proofs.parse.Goals as goal
 
 pub returns-then-rest-eq0 : goal.returns-then-rest-eq0
-returns-then-rest-eq0 g c = parsed_whole (g.N.Lookup.labels c.args.names.now) c.args.text.now _ c.in-Ok.rest.now _ _ (front c.args.text.now 47 (search rules) (search rules)) c.in-Ok.ensures (search rules)
+returns-then-rest-eq0 g c = parsed_whole (g.N.Naming.labels c.args.names.now) c.args.text.now _ c.in-Ok.rest.now _ _ (front c.args.text.now 47 (search rules) (search rules)) c.in-Ok.ensures (search rules)
 
 pub returns-else-rest-eq0 : goal.returns-else-rest-eq0
-returns-else-rest-eq0 g c = parsed_part (g.N.Lookup.labels c.args.names.now) c.args.text.now _ c.in-Ok.rest.now _ _ (front c.args.text.now 47 (search rules) (search rules)) c.in-Ok.ensures (search rules)
+returns-else-rest-eq0 g c = parsed_part (g.N.Naming.labels c.args.names.now) c.args.text.now _ c.in-Ok.rest.now _ _ (front c.args.text.now 47 (search rules) (search rules)) c.in-Ok.ensures (search rules)
 
 pub returns-in-Err : goal.returns-in-Err
 returns-in-Err g c = parsed_stuck c.args.text.now _ c.in-Err.e.left (front c.args.text.now 47 (search rules) (search rules)) c.in-Err.ensures

@@ -5,7 +5,7 @@ ghost use Rattle.names.specs.Held.{bytes_of, fault_of, labels_of, outcome_of};
 ghost use Rattle.names.specs.Ranged.{labels_ranged};
 ghost use Rattle.names.specs.declared.NamesFault.{NamesFault};
 
-use crate::lookup::Lookup;
+use crate::lookup::{Lookup, Naming};
 use crate::sheet::Sheet;
 use crate::{NamesFault, check, label};
 
@@ -35,18 +35,17 @@ impl<'a> Sheet<'a> {
     }
 }
 
-impl<'a> Lookup for Sheet<'a> {
+impl<'a> Naming for Sheet<'a> {
     ghost labels = { labels_of };
 
-    ghost ranged = { labels_ranged };
-
-    fn label(&self, name: &[u8]) -> Option<u16> {
+    fn label(&self, name: &[u8]) -> Option<usize> {
         match self.fault {
             Some(_) => None,
-            None => match label(self.bytes, name) {
-                Some(label) => Some(label as u16),
-                None => None,
-            },
+            None => label(self.bytes, name),
         }
     }
+}
+
+impl<'a> Lookup for Sheet<'a> {
+    ghost ranged = { labels_ranged };
 }
