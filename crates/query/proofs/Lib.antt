@@ -1,5 +1,4 @@
-pub mod Pieces
-pub mod Formulas
+pub mod Known
 pub mod Built
 pub mod Noted
 pub mod Deep

@@ -1,19 +1,26 @@
 -- Whole: what the draft of a whole text says of its query, and the answer that follows.
-use Rattle.std.proofs.Common.{◌≡◌, ℕ, ◌-◌, ◌*◌, ◌<◌, ◌≤◌, Bool, cond, List, [], ◌∷◌, ◌++◌, length, take, Some, None, sym, refl, ap, ◌∙◌, subst, ⊎_elim, append-nil, arith}
-use Rattle.std.proofs.lemmas.List.{nil_from_length, length-take-le}
+use Rattle.std.proofs.Common.{◌≡◌, ℕ, ◌+◌, ◌-◌, ◌*◌, ◌<◌, ◌≤◌, Bool, cond, List, [], ◌∷◌, ◌++◌, length, take, drop, Some, None, sym, refl, ap, ◌∙◌, subst, ⊎_elim, append-nil, arith}
+use Rattle.std.proofs.lemmas.List.{nil_from_length, drop-drop, drop-set-lt}
 use Rattle.std.proofs.lemmas.Bool.{cases_lt, ne_eqb}
+use Rattle.model.specs.Limits.{most_length, most_parts, places}
+use Rattle.names.specs.Labels.{Labels, InRange}
 use Rattle.model.specs.Grammar.{PathTree, path_text, Breaks}
 use Rattle.grammar.specs.Machines.{dead, go, stops}
 use Rattle.grammar.specs.Machine.{axis, done, begin, run}
 use Rattle.grammar.proofs.Forward.{go_on}
 use Rattle.grammar.proofs.Places.{breaks}
 use Rattle.reader.specs.declared.draft.Draft.{Draft}
-use Rattle.reader.specs.declared.table.Part.{Part}
+use Rattle.table.specs.declared.part.Part.{Part}
 use Rattle.query.specs.declared.QueryFault.{QueryFault}
-use Rattle.query.specs.declared.QueryFault.TheVariants.{BadSize, Broken, TooDeep, TooLong, UnknownName, ShortTable}
+use Rattle.query.specs.declared.QueryFault.TheVariants.{BadSize, Broken, TooDeep, TooLong, UnknownName, ShortTable, BadSheet}
 use Rattle.reader.specs.Spells.{Stops}
 use Rattle.reader.specs.Drafts.{started, spine_drafted}
-use Rattle.reader.specs.Table.{query, query_of, reading, piece_at, pieces}
+use Rattle.table.specs.Reading.{query, query_of, last_place, reading, piece_at, pieces}
+use Rattle.table.specs.Lawful.{parts_in}
+use Rattle.table.proofs.Pieces.{piece_stays}
+use Rattle.table.proofs.Whole.{named_last, named_last_place}
+use Rattle.table.proofs.Made.{holds}
+use Rattle.query.proofs.Known.{path_known}
 use Rattle.query.specs.Answers.{Sized, Sound, Accepted, Refused, deep_place, unknown_left, meaning, length_of}
 use Rattle.query.specs.Limits.{Tree, Limited, Copied}
 use Rattle.reader.proofs.Moves.{Not as IsNot}
@@ -27,17 +34,17 @@ past_end : (t : List ℕ) → (length t ≡ 0 → ⊥) → run (done []) t ≡ s
 past_end [] n = absurd (n refl)
 past_end (b ∷ t) n = refl
 
-pub parsed_whole : (sheet t more rest : List ℕ) (old new : Draft) → t ≡ 47 ∷ more → ParsedSpine sheet more rest old new → length rest ≡ 0 → Tree t sheet old new
-parsed_whole sheet t more rest old new e p z =
+pub parsed_whole : (labels : Labels) (t more rest : List ℕ) (old new : Draft) → t ≡ 47 ∷ more → ParsedSpine labels more rest old new → length rest ≡ 0 → Tree t labels old new
+parsed_whole labels t more rest old new e p z =
     let k = nil_from_length rest z in
     record {
       tree = p.tree;
       reads = e ∙ ap (λ (y : List ℕ). 47 ∷ y) (p.reads ∙ ap (λ (y : List ℕ). path_text p.tree ++ y) k ∙ append-nil (path_text p.tree));
-      made = p.made ∙ ap (λ (y : List ℕ). spine_drafted sheet p.tree y old) k;
+      made = p.made ∙ ap (λ (y : List ℕ). spine_drafted labels p.tree y old) k;
     }
 
-pub parsed_part : (sheet t more rest : List ℕ) (old new : Draft) → t ≡ 47 ∷ more → ParsedSpine sheet more rest old new → (length rest ≡ 0 → ⊥) → Breaks t (length t - length rest)
-parsed_part sheet t more rest old new e p n = breaks t (length rest) (ap (run begin) e ∙ p.takes.goes [] ∙ past_end rest n)
+pub parsed_part : (labels : Labels) (t more rest : List ℕ) (old new : Draft) → t ≡ 47 ∷ more → ParsedSpine labels more rest old new → (length rest ≡ 0 → ⊥) → Breaks t (length t - length rest)
+parsed_part labels t more rest old new e p n = breaks t (length rest) (ap (run begin) e ∙ p.takes.goes [] ∙ past_end rest n)
 
 pub parsed_stuck : (t more : List ℕ) (left : ℕ) → t ≡ 47 ∷ more → Stops axis more left → Breaks t (length t - left)
 parsed_stuck t more left e d = breaks t left (ap (run begin) e ∙ d.halts [])
@@ -53,78 +60,110 @@ parsed_none t n = let z : length t - length t ≡ 0 = omega arith in rw z at (br
 started_ready : Ready started
 started_ready = record { size = refl; fits = omega arith }
 
-pub record Facts (sheet : List ℕ) (tree : PathTree) (d : Draft) : Type 0 where
-  pub exact : length_of sheet tree ≤ 16 → d.count ≡ length_of sheet tree
-  pub over : 16 < length_of sheet tree → 16 < d.count
-  pub unknown : d.unknown ≡ unknown_left sheet tree
-  pub built : length_of sheet tree ≤ 16 → Built started d (query (meaning sheet tree)) (4 * length_of sheet tree)
+pub record Facts (labels : Labels) (tree : PathTree) (d : Draft) : Type 0 where
+  pub exact : length_of labels tree ≤ most_length → d.count ≡ length_of labels tree
+  pub over : most_length < length_of labels tree → most_length < d.count
+  pub unknown : d.unknown ≡ unknown_left labels tree
+  pub built : length_of labels tree ≤ most_length → Built started d (query (meaning labels tree)) (4 * length_of labels tree)
 
-facts_of : (sheet : List ℕ) (tree : PathTree) → Facts sheet tree (spine_drafted sheet tree [] started)
-facts_of sheet tree =
-    let n = spine_noted sheet tree [] started in
+facts_of : (labels : Labels) (tree : PathTree) → Facts labels tree (spine_drafted labels tree [] started)
+facts_of labels tree =
+    let n = spine_noted labels tree [] started in
     record {
       exact = λ h. n.exact (omega arith) ∙ omega arith;
       over = λ h. n.over (omega arith);
       unknown = n.first;
-      built = λ h. query_built sheet tree [] started started_ready (omega arith) refl (omega arith);
+      built = λ h. query_built labels tree [] started started_ready (omega arith) refl (omega arith);
     }
 
-pub facts : (t sheet : List ℕ) (d : Draft) (k : Tree t sheet started d) → Facts sheet k.tree d
-facts t sheet d k = subst (λ (e : Draft). Facts sheet k.tree e) (sym k.made) (facts_of sheet k.tree)
+pub facts : (t : List ℕ) (labels : Labels) (d : Draft) (k : Tree t labels started d) → Facts labels k.tree d
+facts t labels d k = subst (λ (e : Draft). Facts labels k.tree e) (sym k.made) (facts_of labels k.tree)
 
-deep_place_is : (t sheet : List ℕ) (d : Draft) → Tree t sheet started d → deep_place t ≡ placed (length t) d.deep
-deep_place_is t sheet d k =
-    ap deep_place k.reads ∙ deep_noted sheet k.tree ∙ ap (λ (u : List ℕ). placed (length u) (spine_drafted sheet k.tree [] started).deep) (sym k.reads) ∙ ap (λ (e : Draft). placed (length t) e.deep) (sym k.made)
+deep_place_is : (t : List ℕ) (labels : Labels) (d : Draft) → Tree t labels started d → deep_place t ≡ placed (length t) d.deep
+deep_place_is t labels d k =
+    ap deep_place k.reads ∙ deep_noted labels k.tree ∙ ap (λ (u : List ℕ). placed (length u) (spine_drafted labels k.tree [] started).deep) (sym k.reads) ∙ ap (λ (e : Draft). placed (length t) e.deep) (sym k.made)
 
-sound : (t sheet : List ℕ) (d : Draft) → Sized t → (k : Tree t sheet started d) → d.deep ≡ None → Sound t k.tree
-sound t sheet d s k n = record { sized = s; reads = k.reads; shallow = deep_place_is t sheet d k ∙ ap (placed (length t)) n }
+sound : (t : List ℕ) (labels : Labels) (d : Draft) → Sized t → (k : Tree t labels started d) → d.deep ≡ None → Sound t k.tree
+sound t labels d s k n = record { sized = s; reads = k.reads; shallow = deep_place_is t labels d k ∙ ap (placed (length t)) n }
 
 -- a count within the limit is the length
-pub short : (sheet : List ℕ) (tree : PathTree) (d : Draft) → Facts sheet tree d → d.count ≤ 16 → length_of sheet tree ≤ 16
-short sheet tree d f h = ⊎_elim (λ (k : 16 < length_of sheet tree). absurd (omega (arith, f.over k))) (λ (k : length_of sheet tree ≤ 16). k) (cases_lt 16 (length_of sheet tree))
+pub short : (labels : Labels) (tree : PathTree) (d : Draft) → Facts labels tree d → d.count ≤ most_length → length_of labels tree ≤ most_length
+short labels tree d f h = ⊎_elim (λ (k : most_length < length_of labels tree). absurd (omega (arith, f.over k))) (λ (k : length_of labels tree ≤ most_length). k) (cases_lt most_length (length_of labels tree))
 
-long : (sheet : List ℕ) (tree : PathTree) (d : Draft) → Facts sheet tree d → 16 < d.count → 16 < length_of sheet tree
-long sheet tree d f h = ⊎_elim (λ (k : 16 < length_of sheet tree). k) (λ (k : length_of sheet tree ≤ 16). absurd (omega (arith, f.exact k))) (cases_lt 16 (length_of sheet tree))
+long : (labels : Labels) (tree : PathTree) (d : Draft) → Facts labels tree d → most_length < d.count → most_length < length_of labels tree
+long labels tree d f h = ⊎_elim (λ (k : most_length < length_of labels tree). k) (λ (k : length_of labels tree ≤ most_length). absurd (omega (arith, f.exact k))) (cases_lt most_length (length_of labels tree))
 
-pub refused : (t sheet : List ℕ) (n : ℕ) (d : Draft) (f : QueryFault) → Sized t → Tree t sheet started d → Limited t d n (Some f) → Refused t sheet n f
-refused t sheet n d BadSize s k l = absurd l
-refused t sheet n d (Broken p) s k l = absurd l
-refused t sheet n d (TooDeep p) s k l = (s, (k.tree, k.reads), deep_place_is t sheet d k ∙ ap (placed (length t)) l.1 ∙ ap Some (sym l.2))
-refused t sheet n d TooLong s k l = (k.tree, sound t sheet d s k l.0, long sheet k.tree d (facts t sheet d k) l.1)
-refused t sheet n d (UnknownName p) s k l =
-    let f = facts t sheet d k in
-    (k.tree, sound t sheet d s k l.0, short sheet k.tree d f l.1, (l.2.0, sym f.unknown ∙ l.2.1, l.2.2))
-refused t sheet n d ShortTable s k l =
-    let f = facts t sheet d k in
-    let h = short sheet k.tree d f l.1 in
-    (k.tree, sound t sheet d s k l.0, h, sym f.unknown ∙ l.2, omega (arith, f.exact h, l.3))
+pub refused : (t : List ℕ) (labels : Labels) (n : ℕ) (d : Draft) (f : QueryFault) → Sized t → Tree t labels started d → Limited t d n (Some f) → Refused t labels n f
+refused t labels n d (BadSheet f) s k l = absurd l
+refused t labels n d BadSize s k l = absurd l
+refused t labels n d (Broken p) s k l = absurd l
+refused t labels n d (TooDeep p) s k l = (s, (k.tree, k.reads), deep_place_is t labels d k ∙ ap (placed (length t)) l.1 ∙ ap Some (sym l.2))
+refused t labels n d TooLong s k l = (k.tree, sound t labels d s k l.0, long labels k.tree d (facts t labels d k) l.1)
+refused t labels n d (UnknownName p) s k l =
+    let f = facts t labels d k in
+    (k.tree, sound t labels d s k l.0, short labels k.tree d f l.1, (l.2.0, sym f.unknown ∙ l.2.1, l.2.2))
+refused t labels n d ShortTable s k l =
+    let f = facts t labels d k in
+    let h = short labels k.tree d f l.1 in
+    (k.tree, sound t labels d s k l.0, h, sym f.unknown ∙ l.2, omega (arith, f.exact h, l.3))
 
 -- the parts fit into the table
-pub room : (t sheet : List ℕ) (n : ℕ) (d : Draft) → Tree t sheet started d → Limited t d n None → (d.used ≤ 97) × (d.used ≤ n)
-room t sheet n d k l =
-    let f = facts t sheet d k in
-    let h = short sheet k.tree d f l.1 in
-    let b = f.built h in
-    (b.ready.fits, omega (arith, b.most, f.exact h, l.3))
+pub record Room (n : ℕ) (d : Draft) : Type 0 where
+  pub some : 1 ≤ d.used
+  pub drafted : d.used ≤ most_parts
+  pub room : d.used ≤ n
 
-pub accepted : (t sheet : List ℕ) (old new : List Part) (d : Draft) → Sized t → Tree t sheet started d → Limited t d (length old) None → Copied d.used d.parts old new → Accepted t sheet old new (record { steps = d.count; places = d.used })
-accepted t sheet old new d s k l c =
-    let f = facts t sheet d k in
-    let h = short sheet k.tree d f l.1 in
+pub room : (t : List ℕ) (labels : Labels) (n : ℕ) (d : Draft) → Tree t labels started d → Limited t d n None → Room n d
+room t labels n d k l =
+    let f = facts t labels d k in
+    let h = short labels k.tree d f l.1 in
+    let b = f.built h in
+    record { some = omega (arith, b.more); drafted = b.ready.fits; room = omega (arith, b.most, f.exact h, l.3) }
+
+-- what the table then reads as
+module _ (labels : Labels) (tree : PathTree) (old new : List Part) (d : Draft) (b : Built started d (query (meaning labels tree)) (4 * length_of labels tree)) (c : Copied d.used d.parts old new) where
+  abbrev k : ℕ
+  k = d.used - 1
+
+  abbrev mid : List Part
+  mid = c.between
+
+  at : (i : ℕ) → i < d.used → piece_at (pieces mid) i ≡ piece_at (pieces (take d.used d.parts)) i
+  at i h = sym (piece_stays mid d.used i h c.long) ∙ ap (λ (ps : List Part). piece_at (pieces ps) i) c.front
+
+  some : 0 < length mid
+  some = omega (arith, b.more, c.long)
+
+  pub reads : reading new ≡ meaning labels tree
+  reads =
+      ap reading c.named ∙ named_last mid k some (at 0 (omega (arith, b.more)) ∙ b.keeps 0 (omega arith)) ∙ ap query_of (at k (omega (arith, b.more)) ∙ b.last)
+
+  pub last_is : parts_in new ≡ d.used
+  last_is = omega (arith, ap last_place c.named, named_last_place mid k some, b.more)
+
+  pub past : (l : ℕ) → d.used ≤ l → drop l new ≡ drop l old
+  past l h =
+      let e : d.used + (l - d.used) ≡ l = omega arith in
+      let split : (ps : List Part) → drop l ps ≡ drop (l - d.used) (drop d.used ps) = λ ps. ap (λ (n : ℕ). drop n ps) (sym e) ∙ sym (drop-drop (l - d.used) d.used ps) in
+      split new ∙ ap (drop (l - d.used)) (ap (drop d.used) c.named ∙ drop-set-lt d.used mid 0 _ (omega (arith, b.more)) ∙ c.kept) ∙ sym (split old)
+
+pub accepted : (t : List ℕ) (labels : Labels) → ((n : List ℕ) → InRange (labels n)) → (old new : List Part) (d : Draft) → Sized t → Tree t labels started d → Limited t d (length old) None → Copied d.used d.parts old new → Accepted t labels old new d.count
+accepted t labels ranged old new d s k l c =
+    let f = facts t labels d k in
+    let h = short labels k.tree d f l.1 in
     let b = f.built h in
     let e = f.exact h in
-    let w : length (take d.used d.parts) ≡ d.used = length-take-le d.used d.parts (omega (arith, b.ready.size, b.ready.fits)) in
+    let u : unknown_left labels k.tree ≡ None = sym f.unknown ∙ l.2 in
     record {
       tree = k.tree;
-      sound = sound t sheet d s k l.0;
+      sound = sound t labels d s k l.0;
       length_is = e;
       short = l.1;
-      known = sym f.unknown ∙ l.2;
+      known = u;
       room = l.3;
-      few = omega (arith, b.most);
-      holds = ap reading c.front ∙ ap (λ (i : ℕ). query_of (piece_at (pieces (take d.used d.parts)) (i - 1))) w ∙ ap query_of b.last;
-      kept = c.kept;
+      holds = holds new (meaning labels k.tree) (reads labels k.tree old new d b c) h (path_known labels ranged k.tree [] u) (omega (arith, last_is labels k.tree old new d b c, b.most));
+      kept = past labels k.tree old new d b c (places d.count) (omega (arith, b.most));
     }
 
-pub from_start : (t sheet : List ℕ) (d e : Draft) → d ≡ started → Tree t sheet d e → Tree t sheet started e
-from_start t sheet d e q k = record { tree = k.tree; reads = k.reads; made = k.made ∙ ap (spine_drafted sheet k.tree []) q }
+pub from_start : (t : List ℕ) (labels : Labels) (d e : Draft) → d ≡ started → Tree t labels d e → Tree t labels started e
+from_start t labels d e q k = record { tree = k.tree; reads = k.reads; made = k.made ∙ ap (spine_drafted labels k.tree []) q }

@@ -1,26 +1,14 @@
 -- The answer to a query text: when it is accepted and what the table then holds, and otherwise the first fault that applies.
-use Rattle.std.specs.Prelude.{◌≡◌, ℕ, ◌+◌, ◌-◌, ◌*◌, ◌<◌, ◌≤◌, Bool, cond, ◌||◌, List, [], ◌∷◌, ◌++◌, length, take, drop, is_some, Some, None, Ok, Err, codes, Option, Result, ◌==◌, nat_le}
+use Rattle.std.specs.Prelude.{◌≡◌, ℕ, ◌+◌, ◌-◌, ◌<◌, ◌≤◌, Bool, cond, ◌||◌, List, [], ◌∷◌, ◌++◌, length, drop, is_some, Some, None, Ok, Err, codes, Option, Result, ◌==◌, nat_le}
+use Rattle.model.specs.Limits.{most_length, most_open, most_text, places}
 use Rattle.model.specs.Query.{Path, path_length}
 use Rattle.model.specs.Grammar.{TestTree, star, name, PathTree, StepTree, OrChain, AndChain, Atom, one, slash, bare, held, ands, or, atom, and, along, parens, negate, path_text, or_text, and_text, atom_text, Reads, Query, Breaks, path_meaning}
-use Rattle.names.specs.Sheet.{label_in}
+use Rattle.names.specs.declared.NamesFault.{NamesFault}
+use Rattle.names.specs.Labels.{Labels}
 use Rattle.query.specs.declared.QueryFault.{QueryFault}
-use Rattle.query.specs.declared.QueryFault.TheVariants.{BadSize, Broken, TooDeep, TooLong, UnknownName, ShortTable}
-use Rattle.query.specs.declared.QuerySize.{QuerySize}
-use Rattle.reader.specs.declared.table.Part.{Part}
-use Rattle.reader.specs.Table.{reading}
-
-abbrev pub most_text : ℕ
-most_text = 512
-
-abbrev pub most_open : ℕ
-most_open = 8
-
-abbrev pub most_length : ℕ
-most_length = 16
-
--- the places that a query of this length may take
-abbrev pub places : ℕ → ℕ
-places l = 6 * l + 1
+use Rattle.query.specs.declared.QueryFault.TheVariants.{BadSize, Broken, TooDeep, TooLong, UnknownName, ShortTable, BadSheet}
+use Rattle.table.specs.declared.part.Part.{Part}
+use Rattle.table.specs.Lawful.{checked_reading}
 
 pub record Sized (t : List ℕ) : Type 0 where
   pub some : 1 ≤ length t
@@ -69,24 +57,24 @@ abbrev mutual
   atom_names (parens f) rest = or_names f (41 ∷ rest)
   atom_names (negate f) rest = or_names f (41 ∷ rest)
 
--- how many bytes are left from the first name on that is not in the sheet
-abbrev pub first_unknown : List ℕ → List (List ℕ × List ℕ) → Option ℕ
-first_unknown sheet [] = None
-first_unknown sheet (n ∷ ns) = cond (is_some (label_in sheet n.0)) (first_unknown sheet ns) (Some (length n.1))
+-- how many bytes are left from the first name on that has no label
+abbrev pub first_unknown : Labels → List (List ℕ × List ℕ) → Option ℕ
+first_unknown labels [] = None
+first_unknown labels (n ∷ ns) = cond (is_some (labels n.0)) (first_unknown labels ns) (Some (length n.1))
 
-abbrev pub unknown_left : List ℕ → PathTree → Option ℕ
-unknown_left sheet tree = first_unknown sheet (path_names tree [])
+abbrev pub unknown_left : Labels → PathTree → Option ℕ
+unknown_left labels tree = first_unknown labels (path_names tree [])
 
 abbrev pub or_zero : Option ℕ → ℕ
 or_zero None = 0
 or_zero (Some l) = l
 
--- the query of a tree, by the labels of the sheet
-abbrev pub meaning : List ℕ → PathTree → Path
-meaning sheet tree = path_meaning (λ n. or_zero (label_in sheet n)) tree
+-- the query of a tree, by the labels of its names
+abbrev pub meaning : Labels → PathTree → Path
+meaning labels tree = path_meaning (λ n. or_zero (labels n)) tree
 
-abbrev pub length_of : List ℕ → PathTree → ℕ
-length_of sheet tree = path_length (meaning sheet tree)
+abbrev pub length_of : Labels → PathTree → ℕ
+length_of labels tree = path_length (meaning labels tree)
 
 -- the text is that of the tree, and neither too long nor too deep
 pub record Sound (t : List ℕ) (tree : PathTree) : Type 0 where
@@ -94,26 +82,38 @@ pub record Sound (t : List ℕ) (tree : PathTree) : Type 0 where
   pub reads : Reads t tree
   pub shallow : deep_place t ≡ None
 
-pub record Accepted (t sheet : List ℕ) (old new : List Part) (size : QuerySize) : Type 0 where
+-- The text's one tree has this length and is within all limits, and the table reads as its query; past the places of that length it is as it was.
+pub record Accepted (t : List ℕ) (labels : Labels) (old new : List Part) (l : ℕ) : Type 0 where
   pub tree : PathTree
   pub sound : Sound t tree
-  pub length_is : size.steps ≡ length_of sheet tree
-  pub short : size.steps ≤ most_length
-  pub known : unknown_left sheet tree ≡ None
-  pub room : places size.steps ≤ length old
-  pub few : size.places ≤ places size.steps
-  pub holds : reading (take size.places new) ≡ meaning sheet tree
-  pub kept : drop size.places new ≡ drop size.places old
+  pub length_is : l ≡ length_of labels tree
+  pub short : l ≤ most_length
+  pub known : unknown_left labels tree ≡ None
+  pub room : places l ≤ length old
+  pub holds : checked_reading new ≡ meaning labels tree
+  pub kept : drop (places l) new ≡ drop (places l) old
 
--- The faults in their order; each presupposes that none before it applies.
-abbrev pub Refused : List ℕ → List ℕ → ℕ → QueryFault → Type 0
-Refused t sheet n BadSize = Sized t → ⊥
-Refused t sheet n (Broken p) = Sized t × Breaks t p
-Refused t sheet n (TooDeep p) = Sized t × Query t × (deep_place t ≡ Some p)
-Refused t sheet n TooLong = (tree : PathTree) × Sound t tree × (most_length < length_of sheet tree)
-Refused t sheet n (UnknownName p) = (tree : PathTree) × Sound t tree × (length_of sheet tree ≤ most_length) × ((left : ℕ) × (unknown_left sheet tree ≡ Some left) × (p ≡ length t - left))
-Refused t sheet n ShortTable = (tree : PathTree) × Sound t tree × (length_of sheet tree ≤ most_length) × (unknown_left sheet tree ≡ None) × (n < places (length_of sheet tree))
+-- The faults in their order; each presupposes that none before it applies. A sheet is judged before any text.
+abbrev pub Refused : List ℕ → Labels → ℕ → QueryFault → Type 0
+Refused t labels n (BadSheet f) = ⊥
+Refused t labels n BadSize = Sized t → ⊥
+Refused t labels n (Broken p) = Sized t × Breaks t p
+Refused t labels n (TooDeep p) = Sized t × Query t × (deep_place t ≡ Some p)
+Refused t labels n TooLong = (tree : PathTree) × Sound t tree × (most_length < length_of labels tree)
+Refused t labels n (UnknownName p) = (tree : PathTree) × Sound t tree × (length_of labels tree ≤ most_length) × ((left : ℕ) × (unknown_left labels tree ≡ Some left) × (p ≡ length t - left))
+Refused t labels n ShortTable = (tree : PathTree) × Sound t tree × (length_of labels tree ≤ most_length) × (unknown_left labels tree ≡ None) × (n < places (length_of labels tree))
 
-abbrev pub Answered : List ℕ → List ℕ → List Part → List Part → Result QuerySize QueryFault → Type 0
-Answered t sheet old new (Ok size) = Accepted t sheet old new size
-Answered t sheet old new (Err f) = (new ≡ old) × Refused t sheet (length old) f
+-- The answer to a text: its length, or the first fault that applies, and then the table is as it was.
+abbrev pub Answered : List ℕ → Labels → List Part → List Part → Result ℕ QueryFault → Type 0
+Answered t labels old new (Ok l) = Accepted t labels old new l
+Answered t labels old new (Err f) = (new ≡ old) × Refused t labels (length old) f
+
+-- with the names of a sheet, which may be refused itself
+abbrev pub AnsweredWith : Option NamesFault → List ℕ → Labels → List Part → List Part → Result ℕ QueryFault → Type 0
+AnsweredWith None t labels old new r = Answered t labels old new r
+AnsweredWith (Some f) t labels old new r = (new ≡ old) × (r ≡ Err (BadSheet f))
+
+-- Whatever tree the text has, an accepted table reads as what that tree means, and the answer is its length.
+abbrev pub ReadsAsWritten : List ℕ → Labels → List Part → Result ℕ QueryFault → Type 0
+ReadsAsWritten t labels new (Ok l) = (tree : PathTree) → Reads t tree → (checked_reading new ≡ meaning labels tree) × (l ≡ path_length (checked_reading new))
+ReadsAsWritten t labels new (Err f) = Unit {0}

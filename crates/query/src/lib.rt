@@ -1,31 +1,29 @@
-// Checked queries: a query text read into a table of parts, or the refusal that names what is wrong.
+// Query texts: one is compiled into a table of parts, or refused by a fault that names what is wrong.
 #![tactic(auto)]
 
-ghost use Rattle.query.specs.Answers.{Answered};
-ghost use Rattle.std.specs.Prelude.{◌≤◌, length};
+ghost use Rattle.std.specs.Prelude.{◌≡◌, ℕ, ◌≤◌, List, length, Result};
+ghost use Rattle.model.specs.Limits.{most_parts};
+ghost use Rattle.names.specs.Held.{fault_of, labels_of};
+ghost use Rattle.table.specs.declared.part.Part.{Part};
+ghost use Rattle.query.specs.declared.QueryFault.{QueryFault};
+ghost use Rattle.query.specs.Answers.{Answered, AnsweredWith, ReadsAsWritten};
 ghost use Rattle.query.specs.Limits.{Drafted, Limited, Copied};
-ghost use Rattle.query.specs.Refusals.{query_refusal};
-ghost use Rattle.query.specs.Theorems.{FittingIsAccepted, OneFault};
-ghost use Rattle.query.specs.Tables.{AcceptedAsWritten, TablesPartByPart};
+ghost use Rattle.query.specs.Refusals.{query_refusal, query_sentence};
 
-use model::fault::{Fault, Layer, Refusal};
+use model::fault::{Described, Fault, Layer, Refusal};
+use model::limits::{MOST_LENGTH, MOST_TEXT};
+use names::NamesFault;
+use names::lookup::{Lookup, Naming};
+use names::sheet::Sheet;
+use table::part::{Part, Tag};
 use reader::descent::spine;
-use reader::draft::{Draft, MOST_LENGTH, start};
-use reader::table::Part;
-
-// The most bytes of a query text.
-pub const MOST_TEXT: usize = 512;
-
-// The length of an accepted query, and the places that it takes in the table.
-#[derive(Clone, Copy, PartialEq, Eq, Debug)]
-pub struct QuerySize {
-    pub steps: usize,
-    pub places: usize,
-}
+use reader::draft::{Draft, start};
 
 // Why a query text is refused.
 #[derive(Clone, Copy, PartialEq, Eq, Debug)]
 pub enum QueryFault {
+    // The names sheet is refused, so no text is read with it.
+    BadSheet(NamesFault),
     // The text is empty or has too many bytes.
     BadSize,
     // From this place on, nothing makes the text a query.
@@ -34,7 +32,7 @@ pub enum QueryFault {
     TooDeep(usize),
     // The query is too long: it has too many steps, `and`, `or` and `not`.
     TooLong,
-    // The name that begins here is not in the sheet.
+    // The name that begins here has no label.
     UnknownName(usize),
     // The table has too few places.
     ShortTable,
@@ -45,6 +43,7 @@ impl Fault for QueryFault {
 
     fn refusal(&self) -> Refusal {
         let (number, place) = match self {
+            QueryFault::BadSheet(fault) => return fault.refusal(),
             QueryFault::BadSize => (10, 0),
             QueryFault::Broken(p) => (11, *p),
             QueryFault::TooDeep(p) => (12, *p),
@@ -60,12 +59,28 @@ impl Fault for QueryFault {
     }
 }
 
+impl Described for QueryFault {
+    ghost says = { query_sentence };
+
+    fn sentence(&self) -> &'static str {
+        match self {
+            QueryFault::BadSheet(fault) => fault.sentence(),
+            QueryFault::BadSize => "The text is empty or has too many bytes.",
+            QueryFault::Broken(_) => "From here on this is no query.",
+            QueryFault::TooDeep(_) => "With this bracket too many are open.",
+            QueryFault::TooLong => "There are too many steps, `and`, `or` and `not`.",
+            QueryFault::UnknownName(_) => "This name is not known.",
+            QueryFault::ShortTable => "The query table has too few places.",
+        }
+    }
+}
+
 // Reads the whole text into the draft, or answers where the grammar is broken.
-fn parse(text: &[u8], sheet: &[u8], draft: &mut Draft) -> Option<usize>
-    ensures { Drafted text.now sheet.now draft.old draft.new result }
+fn parse<N: Naming>(text: &[u8], names: &N, draft: &mut Draft) -> Option<usize>
+    ensures { Drafted text.now (N.labels names.now) draft.old draft.new result }
 {
     match text {
-        [b'/', more @ ..] => match spine(more, sheet, draft) {
+        [b'/', more @ ..] => match spine(more, names, draft) {
             Ok(rest) => {
                 if rest.len() == 0 {
                     None
@@ -104,64 +119,58 @@ fn limit(text: &[u8], draft: &Draft, room: usize) -> Option<QueryFault>
     }
 }
 
-// Writes the draft's parts into the first places of the table.
+// Writes the draft's parts into the first places of the table; the first one names the last.
 fn copy(draft: &Draft, table: &mut [Part])
-    requires drafted { draft.now.used ≤ 97 }
+    requires some { 1 ≤ draft.now.used }
+    requires drafted { draft.now.used ≤ most_parts }
     requires room { draft.now.used ≤ length table.old }
     ensures { Copied draft.now.used draft.now.parts table.old table.new }
 {
-    for i in 0..draft.used {
+    let used = draft.used;
+    for i in 0..used {
         table[i] = draft.parts[i];
     }
+    table[0] = Part {
+        tag: Tag::First,
+        first: draft.used - 1,
+        second: 0,
+    };
 }
 
-// Reads a query text with the names of the sheet into the table, or refuses it and leaves the table as it was.
-pub fn read(text: &[u8], sheet: &[u8], table: &mut [Part]) -> Result<QuerySize, QueryFault>
-    ensures { Answered text.now sheet.now table.old table.new result }
+// Compiles a query text with the names of a look-up into the table and answers its length, or refuses it and leaves the table as it was. No other answer meets the definition.
+pub fn compile_with<N: Lookup>(
+    text: &[u8],
+    names: &N,
+    table: &mut [Part],
+) -> Result<usize, QueryFault>
+    ensures answers { Answered text.now (N.labels names.now) table.old table.new result }
+    ensures only { (other : Result ℕ QueryFault) (new : List Part) → Answered text.now (N.labels names.now) table.old new other → other ≡ result }
+    ensures written { ReadsAsWritten text.now (N.labels names.now) table.new result }
 {
     if text.len() == 0 || text.len() > MOST_TEXT {
         return Err(QueryFault::BadSize);
     }
     let mut draft = start();
-    match parse(text, sheet, &mut draft) {
+    match parse(text, names, &mut draft) {
         Some(p) => Err(QueryFault::Broken(p)),
         None => match limit(text, &draft, table.len()) {
             Some(fault) => Err(fault),
             None => {
                 copy(&draft, table);
-                Ok(QuerySize {
-                    steps: draft.count,
-                    places: draft.used,
-                })
+                Ok(draft.count)
             }
         },
     }
 }
 
-// A text that is a query and within all limits is refused by nothing: it is accepted.
-pub fn fitting_is_accepted() -> u8
-    ensures { FittingIsAccepted }
+// Compiles a query text with the names of a sheet. A sheet that is refused is the first fault.
+pub fn compile(text: &[u8], sheet: &Sheet, table: &mut [Part]) -> Result<usize, QueryFault>
+    ensures answers { AnsweredWith (fault_of sheet.now) text.now (labels_of sheet.now) table.old table.new result }
+    ensures only { (other : Result ℕ QueryFault) (new : List Part) → AnsweredWith (fault_of sheet.now) text.now (labels_of sheet.now) table.old new other → other ≡ result }
+    ensures written { ReadsAsWritten text.now (labels_of sheet.now) table.new result }
 {
-    0
-}
-
-// A theorem, with nothing to compute: whatever a table holds, its parts, taken one by one, give the formula of the one query that it reads as.
-pub fn table_reads_as_formula() -> u8
-    ensures { TablesPartByPart }
-{
-    0
-}
-
-// At most one fault applies to a text.
-pub fn one_fault() -> u8
-    ensures { OneFault }
-{
-    0
-}
-
-// A theorem: the table of an accepted text reads as what the text's one tree means.
-pub fn table_reads_as_text() -> u8
-    ensures { AcceptedAsWritten }
-{
-    0
+    match sheet.fault() {
+        Some(fault) => Err(QueryFault::BadSheet(fault)),
+        None => compile_with(text, sheet, table),
+    }
 }

@@ -3,7 +3,7 @@
 
 #[cfg(test)]
 mod tests {
-    use compiler::{QueryFault, compile};
+    use query::{QueryFault, compile};
     use model::axis::Axis;
     use names::lookup::Naming;
     use names::sheet::Sheet;

@@ -11,10 +11,10 @@ use Rattle.grammar.specs.Machine.{Frame, bracket, paren, State, lits, axis, test
 use Rattle.grammar.specs.Joins.{Join, by_and, by_or, word, Joins, no_join, joined, joins_text}
 use Rattle.grammar.proofs.Forward.{go_on, held_assoc, No, NoName, no_held, no_more, no_name}
 use Rattle.grammar.proofs.Chains.{mk_ors, ors_is}
-use Rattle.names.specs.Sheet.{label_in}
+use Rattle.names.specs.Labels.{Labels}
 use Rattle.reader.specs.declared.draft.Stuck.{Stuck}
 use Rattle.reader.specs.declared.draft.Draft.{Draft}
-use Rattle.reader.specs.declared.table.Tag.TheVariants.{Any, Filtered, Then, Along, And, Not, Step}
+use Rattle.table.specs.declared.part.Tag.TheVariants.{Any, Filtered, Then, Along, And, Not, Step}
 use Rattle.reader.specs.Spells.{Takes, Stops}
 use Rattle.reader.specs.Drafts.{part, added, counted, entered, exited, root, joined_to, reached, closed, labelled, joining, enclosed, test_drafted, step_axis, step_drafted, path_drafted, or_drafted, and_drafted, atom_drafted, linked, spine_drafted, joins_drafted}
 use Rattle.reader.specs.Parsed.{Parsed, inside, NameRead, PathRead, SpineRead, FilterRead, AtomRead, JoinsRead, Shut}
@@ -72,20 +72,20 @@ on_letter b t fs e =
     let n : eqb b 42 ≡ false = ne_eqb b 42 (λ q. false≢true (sym (ap is_letter q) ∙ e)) in
     ap (λ (v : Bool). go_on t (cond v (go (held fs)) (cond (is_letter b) (go (name 23 fs)) dead))) n ∙ ap (λ (v : Bool). go_on t (cond v (go (name 23 fs)) dead)) e
 
-pub star_read : (sheet text rest : List ℕ) (old new : Draft) → text ≡ 42 ∷ rest → new ≡ added (part Any 0 0) old → Parsed test_text (test_drafted sheet) test held text rest old new
-star_read sheet text rest old new e m = record { tree = star; reads = e; made = m; takes = record { falls = omega (arith, ap length e); goes = λ fs. ap (run (test fs)) e } }
+pub star_read : (labels : Labels) (text rest : List ℕ) (old new : Draft) → text ≡ 42 ∷ rest → new ≡ added (part Any 0 0) old → Parsed test_text (test_drafted labels) test held text rest old new
+star_read labels text rest old new e m = record { tree = star; reads = e; made = m; takes = record { falls = omega (arith, ap length e); goes = λ fs. ap (run (test fs)) e } }
 
 pub name_stops : (b : ℕ) (text more : List ℕ) (left : ℕ) → text ≡ b ∷ more → is_letter b ≡ true → Stops (name 23) more left → Stops test text left
 name_stops b text more left e l d = stops_via test (name 23) (λ (fs : List Frame). fs) text more left (omega (arith, ap length e)) (λ fs. ap (run (test fs)) e ∙ on_letter b more fs l) d
 
-pub name_read : (sheet : List ℕ) (b : ℕ) (u text more rest : List ℕ) (old new : Draft) → text ≡ b ∷ more → is_letter b ≡ true → are_name_bytes 23 u ≡ true → more ≡ u ++ rest → Takes (name 23) held more rest → new ≡ labelled (label_in sheet (take (length text - length rest) text)) (length text) old → Parsed test_text (test_drafted sheet) test held text rest old new
-name_read sheet b u text more rest old new e l h k d m =
+pub name_read : (labels : Labels) (b : ℕ) (u text more rest : List ℕ) (old new : Draft) → text ≡ b ∷ more → is_letter b ≡ true → are_name_bytes 23 u ≡ true → more ≡ u ++ rest → Takes (name 23) held more rest → new ≡ labelled (labels (take (length text - length rest) text)) (length text) old → Parsed test_text (test_drafted labels) test held text rest old new
+name_read labels b u text more rest old new e l h k d m =
     let z : text ≡ (b ∷ u) ++ rest = e ∙ ap (λ (y : List ℕ). b ∷ y) k in
     let w : take (length text - length rest) text ≡ b ∷ u = ap (take (length text - length rest)) z ∙ take_at (b ∷ u) rest (length text - length rest) (omega (arith, ap length z, length-append (b ∷ u) rest)) in
     record {
       tree = g.name (b ∷ u) (and_from (is_letter b) (are_name_bytes 23 u) l h);
       reads = z;
-      made = m ∙ ap (λ (y : List ℕ). labelled (label_in sheet y) (length text) old) w ∙ ap (λ (y : List ℕ). labelled (label_in sheet (b ∷ u)) (length y) old) z;
+      made = m ∙ ap (λ (y : List ℕ). labelled (labels y) (length text) old) w ∙ ap (λ (y : List ℕ). labelled (labels (b ∷ u)) (length y) old) z;
       takes = takes_via test held (name 23) held (λ (fs : List Frame). fs) text more rest (omega (arith, ap length e)) (λ fs. ap (run (test fs)) e ∙ on_letter b more fs l) (λ fs. refl) d;
     }
 
@@ -127,34 +127,34 @@ open_paren fs [] n = refl
 open_paren fs (b ∷ t) n = ap (λ (v : Bool). go_on t (cond v (go (done fs)) dead)) (ne_eqb b 41 (n (omega arith)))
 
 -- Steps.
-abbrev ParsedTest : List ℕ → List ℕ → List ℕ → Draft → Draft → Type 0
-ParsedTest sheet = Parsed test_text (test_drafted sheet) test held
+abbrev ParsedTest : Labels → List ℕ → List ℕ → Draft → Draft → Type 0
+ParsedTest labels = Parsed test_text (test_drafted labels) test held
 
-abbrev ParsedStep : List ℕ → List ℕ → List ℕ → Draft → Draft → Type 0
-ParsedStep sheet = Parsed step_text (step_drafted sheet) axis step
+abbrev ParsedStep : Labels → List ℕ → List ℕ → Draft → Draft → Type 0
+ParsedStep labels = Parsed step_text (step_drafted labels) axis step
 
-abbrev ParsedPath : List ℕ → List ℕ → List ℕ → Draft → Draft → Type 0
-ParsedPath sheet = Parsed path_text (path_drafted sheet) axis done
+abbrev ParsedPath : Labels → List ℕ → List ℕ → Draft → Draft → Type 0
+ParsedPath labels = Parsed path_text (path_drafted labels) axis done
 
-abbrev pub ParsedSpine : List ℕ → List ℕ → List ℕ → Draft → Draft → Type 0
-ParsedSpine sheet = Parsed path_text (spine_drafted sheet) axis done
+abbrev pub ParsedSpine : Labels → List ℕ → List ℕ → Draft → Draft → Type 0
+ParsedSpine labels = Parsed path_text (spine_drafted labels) axis done
 
-abbrev ParsedFilter : List ℕ → List ℕ → List ℕ → Draft → Draft → Type 0
-ParsedFilter sheet = Parsed or_text (or_drafted sheet) (inside atom) (inside shut)
+abbrev ParsedFilter : Labels → List ℕ → List ℕ → Draft → Draft → Type 0
+ParsedFilter labels = Parsed or_text (or_drafted labels) (inside atom) (inside shut)
 
-abbrev ParsedAtom : List ℕ → List ℕ → List ℕ → Draft → Draft → Type 0
-ParsedAtom sheet = Parsed atom_text (atom_drafted sheet) atom done
+abbrev ParsedAtom : Labels → List ℕ → List ℕ → Draft → Draft → Type 0
+ParsedAtom labels = Parsed atom_text (atom_drafted labels) atom done
 
-abbrev ParsedJoins : List ℕ → Option ℕ → List ℕ → List ℕ → Draft → Draft → Type 0
-ParsedJoins sheet waiting = Parsed joins_text (joins_drafted sheet waiting) (inside done) (inside shut)
+abbrev ParsedJoins : Labels → Option ℕ → List ℕ → List ℕ → Draft → Draft → Type 0
+ParsedJoins labels waiting = Parsed joins_text (joins_drafted labels waiting) (inside done) (inside shut)
 
 -- a filter and the byte that closes it, by the text from the filter on
-enclosed_made : (sheet : List ℕ) (f : OrChain) (byte : ℕ) (inner after end : List ℕ) (old new : Draft) → new ≡ or_drafted sheet f after (entered (length inner) old) → inner ≡ or_text f ++ (byte ∷ end) → after ≡ byte ∷ end → exited new ≡ enclosed (or_text f) (or_drafted sheet f) (byte ∷ end) old
-enclosed_made sheet f byte inner after end old new m i k =
-    ap exited (m ∙ ap (λ (y : List ℕ). or_drafted sheet f y (entered (length inner) old)) k ∙ ap (λ (y : List ℕ). or_drafted sheet f (byte ∷ end) (entered (length y) old)) i)
+enclosed_made : (labels : Labels) (f : OrChain) (byte : ℕ) (inner after end : List ℕ) (old new : Draft) → new ≡ or_drafted labels f after (entered (length inner) old) → inner ≡ or_text f ++ (byte ∷ end) → after ≡ byte ∷ end → exited new ≡ enclosed (or_text f) (or_drafted labels f) (byte ∷ end) old
+enclosed_made labels f byte inner after end old new m i k =
+    ap exited (m ∙ ap (λ (y : List ℕ). or_drafted labels f y (entered (length inner) old)) k ∙ ap (λ (y : List ℕ). or_drafted labels f (byte ∷ end) (entered (length y) old)) i)
 
-module _ (sheet : List ℕ) (a : Axis) (text more rest : List ℕ) (old d1 : Draft) (e : text ≡ axis_text a ++ more) (t : Takes axis test text more) (x : ParsedTest sheet more rest (counted old) d1) where
-  pub step_bare : IsNot rest 91 → (p : ParsedStep sheet text rest old d1) × (a ≡ step_axis p.tree)
+module _ (labels : Labels) (a : Axis) (text more rest : List ℕ) (old d1 : Draft) (e : text ≡ axis_text a ++ more) (t : Takes axis test text more) (x : ParsedTest labels more rest (counted old) d1) where
+  pub step_bare : IsNot rest 91 → (p : ParsedStep labels text rest old d1) × (a ≡ step_axis p.tree)
   step_bare n = (
     record {
       tree = bare a x.tree;
@@ -172,27 +172,27 @@ module _ (sheet : List ℕ) (a : Axis) (text more rest : List ℕ) (old d1 : Dra
   step_stops_inside inner left h d =
       stops_via axis (inside atom) (λ (fs : List Frame). (bracket, fs)) text inner left (omega (arith, t.falls, x.takes.falls, ap length h)) (to_filter inner h) d
 
-  pub step_stops_open : (inner after : List ℕ) (d2 d3 : Draft) (left : ℕ) → rest ≡ 91 ∷ inner → ParsedFilter sheet inner after d2 d3 → left ≡ length after → IsNot after 93 → Stops axis text left
+  pub step_stops_open : (inner after : List ℕ) (d2 d3 : Draft) (left : ℕ) → rest ≡ 91 ∷ inner → ParsedFilter labels inner after d2 d3 → left ≡ length after → IsNot after 93 → Stops axis text left
   step_stops_open inner after d2 d3 left h f q n =
       rw q
       (record { fits = omega (arith, t.falls, x.takes.falls, f.takes.falls, ap length h); halts = λ fs. to_filter inner h fs ∙ f.takes.goes (bracket, fs) ∙ open_bracket fs after n })
 
-  pub step_held : (inner after end : List ℕ) (d2 d3 : Draft) → rest ≡ 91 ∷ inner → ParsedFilter sheet inner after (entered (length inner) d1) d2 → after ≡ 93 ∷ end → d3 ≡ joined_to Filtered (root d1) (exited d2) → (p : ParsedStep sheet text end old d3) × (a ≡ step_axis p.tree)
+  pub step_held : (inner after end : List ℕ) (d2 d3 : Draft) → rest ≡ 91 ∷ inner → ParsedFilter labels inner after (entered (length inner) d1) d2 → after ≡ 93 ∷ end → d3 ≡ joined_to Filtered (root d1) (exited d2) → (p : ParsedStep labels text end old d3) × (a ≡ step_axis p.tree)
   step_held inner after end d2 d3 h f k m =
       let i : inner ≡ or_text f.tree ++ (93 ∷ end) = f.reads ∙ ap (λ (y : List ℕ). or_text f.tree ++ y) k in
       let r : rest ≡ 91 ∷ (or_text f.tree ++ (93 ∷ end)) = h ∙ ap (λ (y : List ℕ). 91 ∷ y) i in (
         record {
           tree = g.held a x.tree f.tree;
           reads = e ∙ ap (λ (y : List ℕ). axis_text a ++ y) (x.reads ∙ ap (λ (y : List ℕ). test_text x.tree ++ y) r) ∙ sym (held_assoc (axis_text a) (test_text x.tree) (or_text f.tree) end);
-          made = m ∙ ap (joined_to Filtered (root d1)) (enclosed_made sheet f.tree 93 inner after end d1 d2 f.made i k) ∙ ap (joining Filtered (enclosed (or_text f.tree) (or_drafted sheet f.tree) (93 ∷ end))) (x.made ∙ ap (λ (y : List ℕ). test_drafted sheet x.tree y (counted old)) r);
+          made = m ∙ ap (joined_to Filtered (root d1)) (enclosed_made labels f.tree 93 inner after end d1 d2 f.made i k) ∙ ap (joining Filtered (enclosed (or_text f.tree) (or_drafted labels f.tree) (93 ∷ end))) (x.made ∙ ap (λ (y : List ℕ). test_drafted labels x.tree y (counted old)) r);
           takes = record { falls = omega (arith, t.falls, x.takes.falls, f.takes.falls, ap length h, ap length k); goes = λ fs. to_filter inner h fs ∙ f.takes.goes (bracket, fs) ∙ ap (run (shut (bracket ∷ fs))) k };
         },
         refl,
       )
 
 -- Paths: a step, and perhaps "/" and a path.
-module _ (sheet : List ℕ) (a : Axis) (text rest : List ℕ) (old d1 : Draft) (s : ParsedStep sheet text rest old d1) (q : a ≡ step_axis s.tree) where
-  pub path_one : (d2 : Draft) → IsNot rest 47 → d2 ≡ reached (Along a) d1 → ParsedPath sheet text rest old d2
+module _ (labels : Labels) (a : Axis) (text rest : List ℕ) (old d1 : Draft) (s : ParsedStep labels text rest old d1) (q : a ≡ step_axis s.tree) where
+  pub path_one : (d2 : Draft) → IsNot rest 47 → d2 ≡ reached (Along a) d1 → ParsedPath labels text rest old d2
   path_one d2 n m =
       record {
         tree = one s.tree;
@@ -211,19 +211,19 @@ module _ (sheet : List ℕ) (a : Axis) (text rest : List ℕ) (old d1 : Draft) (
   both_read p more end h k =
       s.reads ∙ ap (λ (y : List ℕ). step_text s.tree ++ y) (h ∙ ap (λ (y : List ℕ). 47 ∷ y) k) ∙ sym (append_assoc (step_text s.tree) (47 ∷ path_text p) end)
 
-  step_made : (p : PathTree) (more end : List ℕ) → rest ≡ 47 ∷ more → more ≡ path_text p ++ end → d1 ≡ step_drafted sheet s.tree (47 ∷ (path_text p ++ end)) old
-  step_made p more end h k = s.made ∙ ap (λ (y : List ℕ). step_drafted sheet s.tree y old) (h ∙ ap (λ (y : List ℕ). 47 ∷ y) k)
+  step_made : (p : PathTree) (more end : List ℕ) → rest ≡ 47 ∷ more → more ≡ path_text p ++ end → d1 ≡ step_drafted labels s.tree (47 ∷ (path_text p ++ end)) old
+  step_made p more end h k = s.made ∙ ap (λ (y : List ℕ). step_drafted labels s.tree y old) (h ∙ ap (λ (y : List ℕ). 47 ∷ y) k)
 
-  pub path_slash : (more end : List ℕ) (d2 d3 d4 : Draft) → rest ≡ 47 ∷ more → ParsedPath sheet more end d1 d2 → d3 ≡ joined_to Then (root d1) d2 → d4 ≡ reached (Along a) d3 → ParsedPath sheet text end old d4
+  pub path_slash : (more end : List ℕ) (d2 d3 d4 : Draft) → rest ≡ 47 ∷ more → ParsedPath labels more end d1 d2 → d3 ≡ joined_to Then (root d1) d2 → d4 ≡ reached (Along a) d3 → ParsedPath labels text end old d4
   path_slash more end d2 d3 d4 h p m n =
       record {
         tree = slash s.tree p.tree;
         reads = both_read p.tree more end h p.reads;
-        made = n ∙ ap (λ (b : Axis). reached (Along b) d3) q ∙ ap (reached (Along (step_axis s.tree))) (m ∙ ap (joined_to Then (root d1)) p.made ∙ ap (joining Then (path_drafted sheet p.tree end)) (step_made p.tree more end h p.reads));
+        made = n ∙ ap (λ (b : Axis). reached (Along b) d3) q ∙ ap (reached (Along (step_axis s.tree))) (m ∙ ap (joined_to Then (root d1)) p.made ∙ ap (joining Then (path_drafted labels p.tree end)) (step_made p.tree more end h p.reads));
         takes = record { falls = omega (arith, s.takes.falls, p.takes.falls, ap length h); goes = λ fs. to_path more h fs ∙ p.takes.goes fs };
       }
 
-  pub spine_one : (d2 : Draft) → IsNot rest 47 → d2 ≡ linked a old d1 → ParsedSpine sheet text rest old d2
+  pub spine_one : (d2 : Draft) → IsNot rest 47 → d2 ≡ linked a old d1 → ParsedSpine labels text rest old d2
   spine_one d2 n m =
       record {
         tree = one s.tree;
@@ -232,34 +232,34 @@ module _ (sheet : List ℕ) (a : Axis) (text rest : List ℕ) (old d1 : Draft) (
         takes = record { falls = s.takes.falls; goes = λ fs. s.takes.goes fs ∙ no_slash fs rest n };
       }
 
-  pub spine_slash : (more : List ℕ) (d2 d3 : Draft) (r : Result (Bor (List ℕ)) Stuck) → rest ≡ 47 ∷ more → d2 ≡ linked a old d1 → SpineRead sheet more d2 d3 r → SpineRead sheet text old d3 r
+  pub spine_slash : (more : List ℕ) (d2 d3 : Draft) (r : Result (Bor (List ℕ)) Stuck) → rest ≡ 47 ∷ more → d2 ≡ linked a old d1 → SpineRead labels more d2 d3 r → SpineRead labels text old d3 r
   spine_slash more d2 d3 (Ok end) h m p =
       record {
         tree = slash s.tree p.tree;
         reads = both_read p.tree more end.now h p.reads;
-        made = p.made ∙ ap (spine_drafted sheet p.tree end.now) (m ∙ ap (λ (b : Axis). linked b old d1) q ∙ ap (linked (step_axis s.tree) old) (step_made p.tree more end.now h p.reads));
+        made = p.made ∙ ap (spine_drafted labels p.tree end.now) (m ∙ ap (λ (b : Axis). linked b old d1) q ∙ ap (linked (step_axis s.tree) old) (step_made p.tree more end.now h p.reads));
         takes = record { falls = omega (arith, s.takes.falls, p.takes.falls, ap length h); goes = λ fs. to_path more h fs ∙ p.takes.goes fs };
       }
   spine_slash more d2 d3 (Err x) h m p = path_stops more x.left h p
 
 -- Atoms.
-pub atom_along : (sheet text : List ℕ) (old new : Draft) (r : Result (Bor (List ℕ)) Stuck) → IsNot text 40 → IsNot text 110 → PathRead sheet text old new r → AtomRead sheet text old new r
-atom_along sheet text old new (Ok rest) m n p = record { tree = along p.tree; reads = p.reads; made = p.made; takes = record { falls = p.takes.falls; goes = λ fs. no_paren fs text m n ∙ p.takes.goes fs } }
-atom_along sheet text old new (Err e) m n d = stops_via atom axis (λ (fs : List Frame). fs) text text e.left (omega arith) (λ fs. no_paren fs text m n) d
+pub atom_along : (labels : Labels) (text : List ℕ) (old new : Draft) (r : Result (Bor (List ℕ)) Stuck) → IsNot text 40 → IsNot text 110 → PathRead labels text old new r → AtomRead labels text old new r
+atom_along labels text old new (Ok rest) m n p = record { tree = along p.tree; reads = p.reads; made = p.made; takes = record { falls = p.takes.falls; goes = λ fs. no_paren fs text m n ∙ p.takes.goes fs } }
+atom_along labels text old new (Err e) m n d = stops_via atom axis (λ (fs : List Frame). fs) text text e.left (omega arith) (λ fs. no_paren fs text m n) d
 
 pub parens_stop : (text more : List ℕ) (left : ℕ) → text ≡ 40 ∷ more → Stops (inside atom) more left → Stops atom text left
 parens_stop text more left e d = stops_via atom (inside atom) (λ (fs : List Frame). (paren, fs)) text more left (omega (arith, ap length e)) (λ fs. ap (run (atom fs)) e) d
 
-pub parens_read : (sheet text more rest : List ℕ) (old d1 d2 : Draft) (r : Result (Bor (List ℕ)) Stuck) → text ≡ 40 ∷ more → ParsedFilter sheet more rest (entered (length more) old) d1 → d2 ≡ exited d1 → Shut 41 rest r → AtomRead sheet text old d2 r
-parens_read sheet text more rest old d1 d2 (Ok end) e f m k =
+pub parens_read : (labels : Labels) (text more rest : List ℕ) (old d1 d2 : Draft) (r : Result (Bor (List ℕ)) Stuck) → text ≡ 40 ∷ more → ParsedFilter labels more rest (entered (length more) old) d1 → d2 ≡ exited d1 → Shut 41 rest r → AtomRead labels text old d2 r
+parens_read labels text more rest old d1 d2 (Ok end) e f m k =
     let i : more ≡ or_text f.tree ++ (41 ∷ end.now) = f.reads ∙ ap (λ (y : List ℕ). or_text f.tree ++ y) k in
     record {
       tree = parens f.tree;
       reads = e ∙ ap (λ (y : List ℕ). 40 ∷ y) (i ∙ sym (append_assoc (or_text f.tree) (41 ∷ []) end.now));
-      made = m ∙ enclosed_made sheet f.tree 41 more rest end.now old d1 f.made i k;
+      made = m ∙ enclosed_made labels f.tree 41 more rest end.now old d1 f.made i k;
       takes = record { falls = omega (arith, f.takes.falls, ap length e, ap length k); goes = λ fs. ap (run (atom fs)) e ∙ f.takes.goes (paren, fs) ∙ ap (run (shut (paren ∷ fs))) k };
     }
-parens_read sheet text more rest old d1 d2 (Err x) e f m (q, n) =
+parens_read labels text more rest old d1 d2 (Err x) e f m (q, n) =
     rw q (record { fits = omega (arith, f.takes.falls, ap length e); halts = λ fs. ap (run (atom fs)) e ∙ f.takes.goes (paren, fs) ∙ open_paren fs rest n })
 
 -- after "not("
@@ -270,17 +270,17 @@ module _ (text more inner : List ℕ) (e : text ≡ 110 ∷ more) (w : more ≡ 
   pub not_stops : (left : ℕ) → Stops (inside atom) inner left → Stops atom text left
   not_stops left d = stops_via atom (inside atom) (λ (fs : List Frame). (paren, fs)) text inner left (omega (arith, t.falls, ap length e)) to_not d
 
-  pub not_stops_open : (sheet rest : List ℕ) (old new : Draft) (left : ℕ) → ParsedFilter sheet inner rest old new → left ≡ length rest → IsNot rest 41 → Stops atom text left
-  not_stops_open sheet rest old new left f q n =
+  pub not_stops_open : (labels : Labels) (rest : List ℕ) (old new : Draft) (left : ℕ) → ParsedFilter labels inner rest old new → left ≡ length rest → IsNot rest 41 → Stops atom text left
+  not_stops_open labels rest old new left f q n =
       rw q (record { fits = omega (arith, t.falls, f.takes.falls, ap length e); halts = λ fs. to_not fs ∙ f.takes.goes (paren, fs) ∙ open_paren fs rest n })
 
-  pub not_read : (sheet rest end : List ℕ) (old d1 d2 : Draft) → ParsedFilter sheet inner rest (entered (length inner) (counted old)) d1 → rest ≡ 41 ∷ end → d2 ≡ reached Not (exited d1) → ParsedAtom sheet text end old d2
-  not_read sheet rest end old d1 d2 f k m =
+  pub not_read : (labels : Labels) (rest end : List ℕ) (old d1 d2 : Draft) → ParsedFilter labels inner rest (entered (length inner) (counted old)) d1 → rest ≡ 41 ∷ end → d2 ≡ reached Not (exited d1) → ParsedAtom labels text end old d2
+  not_read labels rest end old d1 d2 f k m =
       let i : inner ≡ or_text f.tree ++ (41 ∷ end) = f.reads ∙ ap (λ (y : List ℕ). or_text f.tree ++ y) k in
       record {
         tree = negate f.tree;
         reads = e ∙ ap (λ (y : List ℕ). 110 ∷ y) (w ∙ ap (λ (y : List ℕ). codes "ot(" ++ y) (i ∙ sym (append_assoc (or_text f.tree) (41 ∷ []) end)));
-        made = m ∙ ap (reached Not) (enclosed_made sheet f.tree 41 inner rest end (counted old) d1 f.made i k);
+        made = m ∙ ap (reached Not) (enclosed_made labels f.tree 41 inner rest end (counted old) d1 f.made i k);
         takes = record { falls = omega (arith, t.falls, f.takes.falls, ap length e, ap length k); goes = λ fs. to_not fs ∙ f.takes.goes (paren, fs) ∙ ap (run (shut (paren ∷ fs))) k };
       }
 
@@ -292,44 +292,44 @@ joins_text_assoc : (w : Join) (a : Atom) (j : Joins) (rest : List ℕ) → joins
 joins_text_assoc w a j rest = ap (λ (y : List ℕ). 32 ∷ y) (append_assoc (word w) (atom_text a ++ joins_text j) rest ∙ ap (λ (y : List ℕ). word w ++ y) (append_assoc (atom_text a) (joins_text j) rest))
 
 -- the joins after an and-chain, before which an `or` waits for its right side
-abbrev waiting_joins : List ℕ → Joins → AndChain → List ℕ → Draft → Draft
-waiting_joins sheet j x rest d = joins_drafted sheet (Some (root d)) j rest (and_drafted sheet x (joins_text j ++ rest) (counted d))
+abbrev waiting_joins : Labels → Joins → AndChain → List ℕ → Draft → Draft
+waiting_joins labels j x rest d = joins_drafted labels (Some (root d)) j rest (and_drafted labels x (joins_text j ++ rest) (counted d))
 
-or_joins : (sheet : List ℕ) (j : Joins) (f : OrChain) (x : AndChain) (rest : List ℕ) (d : Draft) → or_drafted sheet (mk_ors (or f x) j) rest d ≡ waiting_joins sheet j x rest (or_drafted sheet f (codes " or " ++ (and_text x ++ (joins_text j ++ rest))) d)
-or_joins sheet no_join f x rest d = refl
-or_joins sheet (joined by_and a j) f x rest d =
-    or_joins sheet j f (and x a) rest d ∙ ap (λ (y : List ℕ). waiting_joins sheet j (and x a) rest (or_drafted sheet f (codes " or " ++ y) d)) (append_assoc (and_text x) (codes " and " ++ atom_text a) (joins_text j ++ rest)) ∙ sym (ap (λ (y : List ℕ). joins_drafted sheet (Some (root (or_drafted sheet f (codes " or " ++ (and_text x ++ y)) d))) (joined by_and a j) rest (and_drafted sheet x y (counted (or_drafted sheet f (codes " or " ++ (and_text x ++ y)) d)))) (joins_text_assoc by_and a j rest))
-or_joins sheet (joined by_or a j) f x rest d =
-    or_joins sheet j (or f x) (g.atom a) rest d ∙ sym (ap (λ (y : List ℕ). joins_drafted sheet (Some (root (or_drafted sheet f (codes " or " ++ (and_text x ++ y)) d))) (joined by_or a j) rest (and_drafted sheet x y (counted (or_drafted sheet f (codes " or " ++ (and_text x ++ y)) d)))) (joins_text_assoc by_or a j rest))
+or_joins : (labels : Labels) (j : Joins) (f : OrChain) (x : AndChain) (rest : List ℕ) (d : Draft) → or_drafted labels (mk_ors (or f x) j) rest d ≡ waiting_joins labels j x rest (or_drafted labels f (codes " or " ++ (and_text x ++ (joins_text j ++ rest))) d)
+or_joins labels no_join f x rest d = refl
+or_joins labels (joined by_and a j) f x rest d =
+    or_joins labels j f (and x a) rest d ∙ ap (λ (y : List ℕ). waiting_joins labels j (and x a) rest (or_drafted labels f (codes " or " ++ y) d)) (append_assoc (and_text x) (codes " and " ++ atom_text a) (joins_text j ++ rest)) ∙ sym (ap (λ (y : List ℕ). joins_drafted labels (Some (root (or_drafted labels f (codes " or " ++ (and_text x ++ y)) d))) (joined by_and a j) rest (and_drafted labels x y (counted (or_drafted labels f (codes " or " ++ (and_text x ++ y)) d)))) (joins_text_assoc by_and a j rest))
+or_joins labels (joined by_or a j) f x rest d =
+    or_joins labels j (or f x) (g.atom a) rest d ∙ sym (ap (λ (y : List ℕ). joins_drafted labels (Some (root (or_drafted labels f (codes " or " ++ (and_text x ++ y)) d))) (joined by_or a j) rest (and_drafted labels x y (counted (or_drafted labels f (codes " or " ++ (and_text x ++ y)) d)))) (joins_text_assoc by_or a j rest))
 
-ands_joins : (sheet : List ℕ) (j : Joins) (x : AndChain) (rest : List ℕ) (d : Draft) → or_drafted sheet (mk_ors (ands x) j) rest d ≡ joins_drafted sheet None j rest (and_drafted sheet x (joins_text j ++ rest) d)
-ands_joins sheet no_join x rest d = refl
-ands_joins sheet (joined by_and a j) x rest d =
-    ands_joins sheet j (and x a) rest d ∙ sym (ap (λ (y : List ℕ). joins_drafted sheet None (joined by_and a j) rest (and_drafted sheet x y d)) (joins_text_assoc by_and a j rest))
-ands_joins sheet (joined by_or a j) x rest d =
-    or_joins sheet j (ands x) (g.atom a) rest d ∙ sym (ap (λ (y : List ℕ). joins_drafted sheet None (joined by_or a j) rest (and_drafted sheet x y d)) (joins_text_assoc by_or a j rest))
+ands_joins : (labels : Labels) (j : Joins) (x : AndChain) (rest : List ℕ) (d : Draft) → or_drafted labels (mk_ors (ands x) j) rest d ≡ joins_drafted labels None j rest (and_drafted labels x (joins_text j ++ rest) d)
+ands_joins labels no_join x rest d = refl
+ands_joins labels (joined by_and a j) x rest d =
+    ands_joins labels j (and x a) rest d ∙ sym (ap (λ (y : List ℕ). joins_drafted labels None (joined by_and a j) rest (and_drafted labels x y d)) (joins_text_assoc by_and a j rest))
+ands_joins labels (joined by_or a j) x rest d =
+    or_joins labels j (ands x) (g.atom a) rest d ∙ sym (ap (λ (y : List ℕ). joins_drafted labels None (joined by_or a j) rest (and_drafted labels x y d)) (joins_text_assoc by_or a j rest))
 
 pub filter_stops : (text : List ℕ) (left : ℕ) → Stops atom text left → Stops (inside atom) text left
 filter_stops text left d = stops_via (inside atom) atom (λ (x : Frame × List Frame). x.0 ∷ x.1) text text left (omega arith) (λ x. refl) d
 
-pub filter_read : (sheet text rest : List ℕ) (old d1 d2 : Draft) (r : Result (Bor (List ℕ)) Stuck) → ParsedAtom sheet text rest old d1 → JoinsRead sheet None rest d1 d2 r → FilterRead sheet text old d2 r
-filter_read sheet text rest old d1 d2 (Ok end) a j =
+pub filter_read : (labels : Labels) (text rest : List ℕ) (old d1 d2 : Draft) (r : Result (Bor (List ℕ)) Stuck) → ParsedAtom labels text rest old d1 → JoinsRead labels None rest d1 d2 r → FilterRead labels text old d2 r
+filter_read labels text rest old d1 d2 (Ok end) a j =
     record {
       tree = mk_ors (ands (g.atom a.tree)) j.tree;
       reads = a.reads ∙ ap (λ (y : List ℕ). atom_text a.tree ++ y) j.reads ∙ sym (append_assoc (atom_text a.tree) (joins_text j.tree) end.now) ∙ sym (ap (λ (y : List ℕ). y ++ end.now) (ors_is (ands (g.atom a.tree)) j.tree));
-      made = j.made ∙ ap (joins_drafted sheet None j.tree end.now) (a.made ∙ ap (λ (y : List ℕ). atom_drafted sheet a.tree y old) j.reads) ∙ sym (ands_joins sheet j.tree (g.atom a.tree) end.now old);
+      made = j.made ∙ ap (joins_drafted labels None j.tree end.now) (a.made ∙ ap (λ (y : List ℕ). atom_drafted labels a.tree y old) j.reads) ∙ sym (ands_joins labels j.tree (g.atom a.tree) end.now old);
       takes = record { falls = omega (arith, a.takes.falls, j.takes.falls); goes = λ x. a.takes.goes (x.0 ∷ x.1) ∙ j.takes.goes x };
     }
-filter_read sheet text rest old d1 d2 (Err e) a d = stops_via (inside atom) (inside done) (λ (x : Frame × List Frame). x) text rest e.left a.takes.falls (λ x. a.takes.goes (x.0 ∷ x.1)) d
+filter_read labels text rest old d1 d2 (Err e) a d = stops_via (inside atom) (inside done) (λ (x : Frame × List Frame). x) text rest e.left a.takes.falls (λ x. a.takes.goes (x.0 ∷ x.1)) d
 
-pub joins_end : (sheet : List ℕ) (waiting : Option ℕ) (text : List ℕ) (old new : Draft) → IsNot text 32 → new ≡ closed waiting old → ParsedJoins sheet waiting text text old new
-joins_end sheet waiting text old new n m = record { tree = no_join; reads = refl; made = m; takes = record { falls = omega arith; goes = λ x. no_blank x.0 x.1 text n } }
+pub joins_end : (labels : Labels) (waiting : Option ℕ) (text : List ℕ) (old new : Draft) → IsNot text 32 → new ≡ closed waiting old → ParsedJoins labels waiting text text old new
+joins_end labels waiting text old new n m = record { tree = no_join; reads = refl; made = m; takes = record { falls = omega arith; goes = λ x. no_blank x.0 x.1 text n } }
 
 pub joins_word_stops : (text more : List ℕ) (left : ℕ) → text ≡ 32 ∷ more → Stops joint more left → Stops (inside done) text left
 joins_word_stops text more left e d = stops_via (inside done) joint (λ (x : Frame × List Frame). x.0 ∷ x.1) text more left (omega (arith, ap length e)) (λ x. ap (run (done (x.0 ∷ x.1))) e) d
 
 -- a blank, a word and an atom
-module _ (sheet text more next rest : List ℕ) (w : Join) (d0 d1 : Draft) (e : text ≡ 32 ∷ more) (h : more ≡ word w ++ next) (t : Takes joint atom more next) (a : ParsedAtom sheet next rest (counted d0) d1) where
+module _ (labels : Labels) (text more next rest : List ℕ) (w : Join) (d0 d1 : Draft) (e : text ≡ 32 ∷ more) (h : more ≡ word w ++ next) (t : Takes joint atom more next) (a : ParsedAtom labels next rest (counted d0) d1) where
   to_atom : (x : Frame × List Frame) → run (inside done x) text ≡ run (inside atom x) next
   to_atom x = ap (run (done (x.0 ∷ x.1))) e ∙ t.goes (x.0 ∷ x.1)
 
@@ -337,8 +337,8 @@ module _ (sheet text more next rest : List ℕ) (w : Join) (d0 d1 : Draft) (e : 
   joined_read j end k =
       e ∙ ap (λ (y : List ℕ). 32 ∷ y) (h ∙ ap (λ (y : List ℕ). word w ++ y) (a.reads ∙ ap (λ (y : List ℕ). atom_text a.tree ++ y) k)) ∙ sym (joins_text_assoc w a.tree j end)
 
-  atom_made : (j : Joins) (end : List ℕ) → rest ≡ joins_text j ++ end → d1 ≡ atom_drafted sheet a.tree (joins_text j ++ end) (counted d0)
-  atom_made j end k = a.made ∙ ap (λ (y : List ℕ). atom_drafted sheet a.tree y (counted d0)) k
+  atom_made : (j : Joins) (end : List ℕ) → rest ≡ joins_text j ++ end → d1 ≡ atom_drafted labels a.tree (joins_text j ++ end) (counted d0)
+  atom_made j end k = a.made ∙ ap (λ (y : List ℕ). atom_drafted labels a.tree y (counted d0)) k
 
   joined_takes : (end : List ℕ) → Takes (inside done) (inside shut) rest end → Takes (inside done) (inside shut) text end
   joined_takes end k = record { falls = omega (arith, t.falls, a.takes.falls, k.falls, ap length e); goes = λ x. to_atom x ∙ a.takes.goes (x.0 ∷ x.1) ∙ k.goes x }
@@ -350,25 +350,25 @@ pub joins_atom_stops : (text more next : List ℕ) (left : ℕ) → text ≡ 32 
 joins_atom_stops text more next left e t d =
     stops_via (inside done) atom (λ (x : Frame × List Frame). x.0 ∷ x.1) text next left (omega (arith, t.falls, ap length e)) (λ x. ap (run (done (x.0 ∷ x.1))) e ∙ t.goes (x.0 ∷ x.1)) d
 
-pub joins_and : (sheet : List ℕ) (waiting : Option ℕ) (text more next rest : List ℕ) (d0 d1 d2 d3 : Draft) (r : Result (Bor (List ℕ)) Stuck) → text ≡ 32 ∷ more → more ≡ word by_and ++ next → Takes joint atom more next → ParsedAtom sheet next rest (counted d0) d1 → d2 ≡ joined_to And (root d0) d1 → JoinsRead sheet waiting rest d2 d3 r → JoinsRead sheet waiting text d0 d3 r
-joins_and sheet waiting text more next rest d0 d1 d2 d3 (Ok end) e h t a m j =
+pub joins_and : (labels : Labels) (waiting : Option ℕ) (text more next rest : List ℕ) (d0 d1 d2 d3 : Draft) (r : Result (Bor (List ℕ)) Stuck) → text ≡ 32 ∷ more → more ≡ word by_and ++ next → Takes joint atom more next → ParsedAtom labels next rest (counted d0) d1 → d2 ≡ joined_to And (root d0) d1 → JoinsRead labels waiting rest d2 d3 r → JoinsRead labels waiting text d0 d3 r
+joins_and labels waiting text more next rest d0 d1 d2 d3 (Ok end) e h t a m j =
     record {
       tree = joined by_and a.tree j.tree;
-      reads = joined_read sheet text more next rest by_and d0 d1 e h t a j.tree end.now j.reads;
-      made = j.made ∙ ap (joins_drafted sheet waiting j.tree end.now) (m ∙ ap (joined_to And (root d0)) (atom_made sheet text more next rest by_and d0 d1 e h t a j.tree end.now j.reads));
-      takes = joined_takes sheet text more next rest by_and d0 d1 e h t a end.now j.takes;
+      reads = joined_read labels text more next rest by_and d0 d1 e h t a j.tree end.now j.reads;
+      made = j.made ∙ ap (joins_drafted labels waiting j.tree end.now) (m ∙ ap (joined_to And (root d0)) (atom_made labels text more next rest by_and d0 d1 e h t a j.tree end.now j.reads));
+      takes = joined_takes labels text more next rest by_and d0 d1 e h t a end.now j.takes;
     }
-joins_and sheet waiting text more next rest d0 d1 d2 d3 (Err x) e h t a m d = joined_stops sheet text more next rest by_and d0 d1 e h t a x.left d
+joins_and labels waiting text more next rest d0 d1 d2 d3 (Err x) e h t a m d = joined_stops labels text more next rest by_and d0 d1 e h t a x.left d
 
-pub joins_or : (sheet : List ℕ) (waiting : Option ℕ) (text more next rest : List ℕ) (old d0 d1 d2 : Draft) (left : ℕ) (r : Result (Bor (List ℕ)) Stuck) → text ≡ 32 ∷ more → more ≡ word by_or ++ next → Takes joint atom more next → d0 ≡ closed waiting old → left ≡ root d0 → ParsedAtom sheet next rest (counted d0) d1 → JoinsRead sheet (Some left) rest d1 d2 r → JoinsRead sheet waiting text old d2 r
-joins_or sheet waiting text more next rest old d0 d1 d2 left (Ok end) e h t m q a j =
+pub joins_or : (labels : Labels) (waiting : Option ℕ) (text more next rest : List ℕ) (old d0 d1 d2 : Draft) (left : ℕ) (r : Result (Bor (List ℕ)) Stuck) → text ≡ 32 ∷ more → more ≡ word by_or ++ next → Takes joint atom more next → d0 ≡ closed waiting old → left ≡ root d0 → ParsedAtom labels next rest (counted d0) d1 → JoinsRead labels (Some left) rest d1 d2 r → JoinsRead labels waiting text old d2 r
+joins_or labels waiting text more next rest old d0 d1 d2 left (Ok end) e h t m q a j =
     record {
       tree = joined by_or a.tree j.tree;
-      reads = joined_read sheet text more next rest by_or d0 d1 e h t a j.tree end.now j.reads;
-      made = j.made ∙ ap (λ (l : ℕ). joins_drafted sheet (Some l) j.tree end.now d1) q ∙ ap (joins_drafted sheet (Some (root d0)) j.tree end.now) (atom_made sheet text more next rest by_or d0 d1 e h t a j.tree end.now j.reads) ∙ ap (λ (d : Draft). joins_drafted sheet (Some (root d)) j.tree end.now (atom_drafted sheet a.tree (joins_text j.tree ++ end.now) (counted d))) m;
-      takes = joined_takes sheet text more next rest by_or d0 d1 e h t a end.now j.takes;
+      reads = joined_read labels text more next rest by_or d0 d1 e h t a j.tree end.now j.reads;
+      made = j.made ∙ ap (λ (l : ℕ). joins_drafted labels (Some l) j.tree end.now d1) q ∙ ap (joins_drafted labels (Some (root d0)) j.tree end.now) (atom_made labels text more next rest by_or d0 d1 e h t a j.tree end.now j.reads) ∙ ap (λ (d : Draft). joins_drafted labels (Some (root d)) j.tree end.now (atom_drafted labels a.tree (joins_text j.tree ++ end.now) (counted d))) m;
+      takes = joined_takes labels text more next rest by_or d0 d1 e h t a end.now j.takes;
     }
-joins_or sheet waiting text more next rest old d0 d1 d2 left (Err x) e h t m q a d = joined_stops sheet text more next rest by_or d0 d1 e h t a x.left d
+joins_or labels waiting text more next rest old d0 d1 d2 left (Err x) e h t m q a d = joined_stops labels text more next rest by_or d0 d1 e h t a x.left d
 
 -- the same reading, by another name of the draft before it
 pub from_draft : {X Y : Type 0} {write : X → List ℕ} {drafted : X → List ℕ → Draft → Draft} {from to : Y → State} {text rest : List ℕ} {d e new : Draft} → d ≡ e → Parsed write drafted from to text rest d new → Parsed write drafted from to text rest e new

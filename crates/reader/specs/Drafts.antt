@@ -1,26 +1,27 @@
 -- What each part of a tree adds to a draft: the readers' contracts cite it, and theorems say what the draft then reads as.
 use Rattle.std.specs.Prelude.{ℕ, ◌+◌, ◌-◌, cond, List, ◌∷◌, ◌++◌, length, replicate, Some, None, codes, Option, nat_le, nat_lt, slice_set}
+use Rattle.model.specs.Limits.{most_length, most_open, most_parts}
 use Rattle.model.specs.declared.axis.Axis.{Axis}
 use Rattle.model.specs.Grammar.{TestTree, star, name, PathTree, StepTree, OrChain, AndChain, Atom, one, slash, bare, held, ands, or, atom, and, along, parens, negate, path_text, or_text, and_text, atom_text}
 use Rattle.grammar.specs.Joins.{by_and, by_or, Joins, no_join, joined, joins_text}
-use Rattle.names.specs.Sheet.{label_in}
+use Rattle.names.specs.Labels.{Labels}
 use Rattle.reader.specs.declared.draft.Draft.{Draft}
-use Rattle.reader.specs.declared.table.Part.{Part}
-use Rattle.reader.specs.declared.table.Tag.{Tag}
-use Rattle.reader.specs.declared.table.Tag.TheVariants.{First, Any, Named, Filtered, Then, Along, And, Or, Not, Step}
+use Rattle.table.specs.declared.part.Part.{Part}
+use Rattle.table.specs.declared.part.Tag.{Tag}
+use Rattle.table.specs.declared.part.Tag.TheVariants.{First, Any, Named, Filtered, Then, Along, And, Or, Not, Step}
 
 abbrev pub part : Tag → ℕ → ℕ → Part
 part tag i j = record { tag = tag; first = i; second = j }
 
 abbrev pub started : Draft
-started = record { parts = replicate 97 (part First 0 0); used = 1; count = 0; unknown = None; depth = 0; deep = None }
+started = record { parts = replicate most_parts (part First 0 0); used = 1; count = 0; unknown = None; depth = 0; deep = None }
 
 -- a part is written where there is room
 abbrev pub added : Part → Draft → Draft
-added p d = cond (nat_lt d.used 97) (record { parts = slice_set d.parts d.used p; used = d.used + 1; count = d.count; unknown = d.unknown; depth = d.depth; deep = d.deep }) d
+added p d = cond (nat_lt d.used most_parts) (record { parts = slice_set d.parts d.used p; used = d.used + 1; count = d.count; unknown = d.unknown; depth = d.depth; deep = d.deep }) d
 
 abbrev pub counted : Draft → Draft
-counted d = record { parts = d.parts; used = d.used; count = cond (nat_le d.count 16) (d.count + 1) d.count; unknown = d.unknown; depth = d.depth; deep = d.deep }
+counted d = record { parts = d.parts; used = d.used; count = cond (nat_le d.count most_length) (d.count + 1) d.count; unknown = d.unknown; depth = d.depth; deep = d.deep }
 
 abbrev pub first_of : Option ℕ → ℕ → Option ℕ
 first_of None left = Some left
@@ -31,7 +32,7 @@ noted left d = record { parts = d.parts; used = d.used; count = d.count; unknown
 
 -- "[" or "(", with so many bytes left after it: past the most, the first one is noted
 abbrev pub entered : ℕ → Draft → Draft
-entered left d = record { parts = d.parts; used = d.used; count = d.count; unknown = d.unknown; depth = cond (nat_lt d.depth 8) (d.depth + 1) d.depth; deep = cond (nat_lt d.depth 8) d.deep (first_of d.deep left) }
+entered left d = record { parts = d.parts; used = d.used; count = d.count; unknown = d.unknown; depth = cond (nat_lt d.depth most_open) (d.depth + 1) d.depth; deep = cond (nat_lt d.depth most_open) d.deep (first_of d.deep left) }
 
 -- "]" or ")"
 abbrev pub exited : Draft → Draft
@@ -56,10 +57,10 @@ abbrev pub labelled : Option ℕ → ℕ → Draft → Draft
 labelled (Some l) left d = added (part Named l 0) d
 labelled None left d = noted left (added (part Named 0 0) d)
 
--- Each takes the sheet, the tree, the text that follows the tree, and the draft before it.
-abbrev pub test_drafted : List ℕ → TestTree → List ℕ → Draft → Draft
-test_drafted sheet star rest d = added (part Any 0 0) d
-test_drafted sheet (name bytes e) rest d = labelled (label_in sheet bytes) (length (bytes ++ rest)) d
+-- Each takes the labels, the tree, the text that follows the tree, and the draft before it.
+abbrev pub test_drafted : Labels → TestTree → List ℕ → Draft → Draft
+test_drafted labels star rest d = added (part Any 0 0) d
+test_drafted labels (name bytes e) rest d = labelled (labels bytes) (length (bytes ++ rest)) d
 
 abbrev pub step_axis : StepTree → Axis
 step_axis (bare a x) = a
@@ -75,38 +76,38 @@ enclosed text further rest d = exited (further rest (entered (length (text ++ re
 
 -- A step drafts what it asks of the element it keeps; a path in a filter is read from an element on.
 abbrev mutual
-  pub step_drafted : List ℕ → StepTree → List ℕ → Draft → Draft
-  step_drafted sheet (bare a x) rest d = test_drafted sheet x rest (counted d)
-  step_drafted sheet (held a x f) rest d = joining Filtered (enclosed (or_text f) (or_drafted sheet f) (93 ∷ rest)) (test_drafted sheet x (91 ∷ (or_text f ++ (93 ∷ rest))) (counted d))
+  pub step_drafted : Labels → StepTree → List ℕ → Draft → Draft
+  step_drafted labels (bare a x) rest d = test_drafted labels x rest (counted d)
+  step_drafted labels (held a x f) rest d = joining Filtered (enclosed (or_text f) (or_drafted labels f) (93 ∷ rest)) (test_drafted labels x (91 ∷ (or_text f ++ (93 ∷ rest))) (counted d))
 
-  pub path_drafted : List ℕ → PathTree → List ℕ → Draft → Draft
-  path_drafted sheet (one s) rest d = reached (Along (step_axis s)) (step_drafted sheet s rest d)
-  path_drafted sheet (slash s p) rest d = reached (Along (step_axis s)) (joining Then (path_drafted sheet p rest) (step_drafted sheet s (47 ∷ (path_text p ++ rest)) d))
+  pub path_drafted : Labels → PathTree → List ℕ → Draft → Draft
+  path_drafted labels (one s) rest d = reached (Along (step_axis s)) (step_drafted labels s rest d)
+  path_drafted labels (slash s p) rest d = reached (Along (step_axis s)) (joining Then (path_drafted labels p rest) (step_drafted labels s (47 ∷ (path_text p ++ rest)) d))
 
-  pub or_drafted : List ℕ → OrChain → List ℕ → Draft → Draft
-  or_drafted sheet (ands x) rest d = and_drafted sheet x rest d
-  or_drafted sheet (or f x) rest d = joining Or (λ (e : Draft). and_drafted sheet x rest (counted e)) (or_drafted sheet f (codes " or " ++ (and_text x ++ rest)) d)
+  pub or_drafted : Labels → OrChain → List ℕ → Draft → Draft
+  or_drafted labels (ands x) rest d = and_drafted labels x rest d
+  or_drafted labels (or f x) rest d = joining Or (λ (e : Draft). and_drafted labels x rest (counted e)) (or_drafted labels f (codes " or " ++ (and_text x ++ rest)) d)
 
-  pub and_drafted : List ℕ → AndChain → List ℕ → Draft → Draft
-  and_drafted sheet (atom a) rest d = atom_drafted sheet a rest d
-  and_drafted sheet (and x a) rest d = joining And (λ (e : Draft). atom_drafted sheet a rest (counted e)) (and_drafted sheet x (codes " and " ++ (atom_text a ++ rest)) d)
+  pub and_drafted : Labels → AndChain → List ℕ → Draft → Draft
+  and_drafted labels (atom a) rest d = atom_drafted labels a rest d
+  and_drafted labels (and x a) rest d = joining And (λ (e : Draft). atom_drafted labels a rest (counted e)) (and_drafted labels x (codes " and " ++ (atom_text a ++ rest)) d)
 
-  pub atom_drafted : List ℕ → Atom → List ℕ → Draft → Draft
-  atom_drafted sheet (along p) rest d = path_drafted sheet p rest d
-  atom_drafted sheet (parens f) rest d = enclosed (or_text f) (or_drafted sheet f) (41 ∷ rest) d
-  atom_drafted sheet (negate f) rest d = reached Not (enclosed (or_text f) (or_drafted sheet f) (41 ∷ rest) (counted d))
+  pub atom_drafted : Labels → Atom → List ℕ → Draft → Draft
+  atom_drafted labels (along p) rest d = path_drafted labels p rest d
+  atom_drafted labels (parens f) rest d = enclosed (or_text f) (or_drafted labels f) (41 ∷ rest) d
+  atom_drafted labels (negate f) rest d = reached Not (enclosed (or_text f) (or_drafted labels f) (41 ∷ rest) (counted d))
 
 -- a step of the query's own path, joined with the query before it
 abbrev pub linked : Axis → Draft → Draft → Draft
 linked a before here = added (part (Step a) (root here) (root before)) here
 
-abbrev pub spine_drafted : List ℕ → PathTree → List ℕ → Draft → Draft
-spine_drafted sheet (one s) rest d = linked (step_axis s) d (step_drafted sheet s rest d)
-spine_drafted sheet (slash s p) rest d = spine_drafted sheet p rest (linked (step_axis s) d (step_drafted sheet s (47 ∷ (path_text p ++ rest)) d))
+abbrev pub spine_drafted : Labels → PathTree → List ℕ → Draft → Draft
+spine_drafted labels (one s) rest d = linked (step_axis s) d (step_drafted labels s rest d)
+spine_drafted labels (slash s p) rest d = spine_drafted labels p rest (linked (step_axis s) d (step_drafted labels s (47 ∷ (path_text p ++ rest)) d))
 
 -- the joins after an atom; what waits at the left of an `or` is joined once its right side is complete
-abbrev pub joins_drafted : List ℕ → Option ℕ → Joins → List ℕ → Draft → Draft
-joins_drafted sheet waiting no_join rest d = closed waiting d
-joins_drafted sheet waiting (joined by_and a j) rest d = joins_drafted sheet waiting j rest (joining And (λ (e : Draft). atom_drafted sheet a (joins_text j ++ rest) (counted e)) d)
-joins_drafted sheet waiting (joined by_or a j) rest d =
-    joins_drafted sheet (Some (root (closed waiting d))) j rest (atom_drafted sheet a (joins_text j ++ rest) (counted (closed waiting d)))
+abbrev pub joins_drafted : Labels → Option ℕ → Joins → List ℕ → Draft → Draft
+joins_drafted labels waiting no_join rest d = closed waiting d
+joins_drafted labels waiting (joined by_and a j) rest d = joins_drafted labels waiting j rest (joining And (λ (e : Draft). atom_drafted labels a (joins_text j ++ rest) (counted e)) d)
+joins_drafted labels waiting (joined by_or a j) rest d =
+    joins_drafted labels (Some (root (closed waiting d))) j rest (atom_drafted labels a (joins_text j ++ rest) (counted (closed waiting d)))

@@ -1,4 +1,3 @@
 pub mod Spells
-pub mod Table
 pub mod Drafts
 pub mod Parsed

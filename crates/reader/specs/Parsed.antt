@@ -1,11 +1,12 @@
 -- What the readers promise: a tree was read off the front of the text and drafted, or the byte machine stops there.
-use Rattle.std.specs.Prelude.{◌≡◌, ℕ, ◌≤◌, true, List, ◌∷◌, ◌++◌, length, Ok, Err, Option, Result, ◌≢◌, slice_index}
+use Rattle.std.specs.Prelude.{◌≡◌, ℕ, ◌≤◌, true, List, ◌∷◌, ◌++◌, length, Ok, Err, Option, Result, slice_index}
 use Rattle.std.specs.Borrow.{Bor}
 use Rattle.model.specs.declared.axis.Axis.{Axis}
 use Rattle.model.specs.Names.{are_name_bytes}
 use Rattle.model.specs.Grammar.{test_text, step_text, path_text, or_text, atom_text}
 use Rattle.grammar.specs.Joins.{Join, by_and, by_or, word, joins_text}
 use Rattle.grammar.specs.Machine.{Frame, State, axis, test, name, held, step, done, joint, atom, shut}
+use Rattle.names.specs.Labels.{Labels}
 use Rattle.reader.specs.declared.draft.Stuck.{Stuck}
 use Rattle.reader.specs.declared.draft.Draft.{Draft}
 use Rattle.reader.specs.declared.descent.Word.{Word}
@@ -31,27 +32,27 @@ abbrev pub NameRead : ℕ → List ℕ → Result (Bor (List ℕ)) Stuck → Typ
 NameRead room text (Ok rest) = (bytes : List ℕ) × (are_name_bytes room bytes ≡ true) × (text ≡ bytes ++ rest.now) × Takes (name room) held text rest.now
 NameRead room text (Err e) = Stops (name room) text e.left
 
-abbrev pub TestRead : List ℕ → List ℕ → Draft → Draft → Result (Bor (List ℕ)) Stuck → Type 0
-TestRead sheet = Read test_text (test_drafted sheet) test held
+abbrev pub TestRead : Labels → List ℕ → Draft → Draft → Result (Bor (List ℕ)) Stuck → Type 0
+TestRead labels = Read test_text (test_drafted labels) test held
 
-abbrev pub StepRead : List ℕ → List ℕ → Draft → Draft → Result (Axis × Bor (List ℕ)) Stuck → Type 0
-StepRead sheet text old new (Ok r) = (p : Parsed step_text (step_drafted sheet) axis step text r.1.now old new) × (r.0 ≡ step_axis p.tree)
-StepRead sheet text old new (Err e) = Stops axis text e.left
+abbrev pub StepRead : Labels → List ℕ → Draft → Draft → Result (Axis × Bor (List ℕ)) Stuck → Type 0
+StepRead labels text old new (Ok r) = (p : Parsed step_text (step_drafted labels) axis step text r.1.now old new) × (r.0 ≡ step_axis p.tree)
+StepRead labels text old new (Err e) = Stops axis text e.left
 
-abbrev pub PathRead : List ℕ → List ℕ → Draft → Draft → Result (Bor (List ℕ)) Stuck → Type 0
-PathRead sheet = Read path_text (path_drafted sheet) axis done
+abbrev pub PathRead : Labels → List ℕ → Draft → Draft → Result (Bor (List ℕ)) Stuck → Type 0
+PathRead labels = Read path_text (path_drafted labels) axis done
 
-abbrev pub SpineRead : List ℕ → List ℕ → Draft → Draft → Result (Bor (List ℕ)) Stuck → Type 0
-SpineRead sheet = Read path_text (spine_drafted sheet) axis done
+abbrev pub SpineRead : Labels → List ℕ → Draft → Draft → Result (Bor (List ℕ)) Stuck → Type 0
+SpineRead labels = Read path_text (spine_drafted labels) axis done
 
-abbrev pub FilterRead : List ℕ → List ℕ → Draft → Draft → Result (Bor (List ℕ)) Stuck → Type 0
-FilterRead sheet = Read or_text (or_drafted sheet) (inside atom) (inside shut)
+abbrev pub FilterRead : Labels → List ℕ → Draft → Draft → Result (Bor (List ℕ)) Stuck → Type 0
+FilterRead labels = Read or_text (or_drafted labels) (inside atom) (inside shut)
 
-abbrev pub AtomRead : List ℕ → List ℕ → Draft → Draft → Result (Bor (List ℕ)) Stuck → Type 0
-AtomRead sheet = Read atom_text (atom_drafted sheet) atom done
+abbrev pub AtomRead : Labels → List ℕ → Draft → Draft → Result (Bor (List ℕ)) Stuck → Type 0
+AtomRead labels = Read atom_text (atom_drafted labels) atom done
 
-abbrev pub JoinsRead : List ℕ → Option ℕ → List ℕ → Draft → Draft → Result (Bor (List ℕ)) Stuck → Type 0
-JoinsRead sheet waiting = Read joins_text (joins_drafted sheet waiting) (inside done) (inside shut)
+abbrev pub JoinsRead : Labels → Option ℕ → List ℕ → Draft → Draft → Result (Bor (List ℕ)) Stuck → Type 0
+JoinsRead labels waiting = Read joins_text (joins_drafted labels waiting) (inside done) (inside shut)
 
 abbrev pub join_of : Word → Join
 join_of And = by_and
@@ -64,4 +65,4 @@ WordRead text (Err e) = Stops joint text e.left
 -- the closing byte, from inside the frame that it closes
 abbrev pub Shut : ℕ → List ℕ → Result (Bor (List ℕ)) Stuck → Type 0
 Shut byte text (Ok rest) = text ≡ byte ∷ rest.now
-Shut byte text (Err e) = (e.left ≡ length text) × (1 ≤ length text → slice_index text 0 ≢ byte)
+Shut byte text (Err e) = (e.left ≡ length text) × (1 ≤ length text → slice_index text 0 ≡ byte → ⊥)

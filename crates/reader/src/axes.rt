@@ -10,13 +10,18 @@ use model::axis::Axis;
 pub fn word<'a>(text: &'a [u8], w: &[u8]) -> Result<&'a [u8], Stuck>
     ensures { Spells w.now text.now result }
 {
-    match w {
-        [] => Ok(text),
-        [c, more @ ..] => match text {
-            [b, rest @ ..] if *b == *c => word(rest, more),
-            _ => Err(Stuck { left: text.len() }),
-        },
+    let mut left = text;
+    let mut due = w;
+    'bytes: while let [c, more @ ..] = due {
+        match left {
+            [b, rest @ ..] if *b == *c => {
+                left = rest;
+                due = more;
+            }
+            _ => return Err(Stuck { left: left.len() }),
+        }
     }
+    Ok(left)
 }
 
 // The rest of an axis that is settled.

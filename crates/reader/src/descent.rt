@@ -5,9 +5,10 @@ ghost use Rattle.grammar.specs.Machine.{bracket, paren};
 use crate::axes::{read_axis, word};
 use crate::draft::{Draft, Stuck};
 use crate::drafting::{add, close, count, enter, join, leave, note, over, root};
-use crate::table::{Part, Tag};
 use model::axis::Axis;
-use names::{is_letter, is_name_byte, label};
+use names::lookup::Naming;
+use names::{MOST_NAME, is_letter, is_name_byte};
+use table::part::{Part, Tag};
 
 // The word that joins two filters.
 #[derive(Clone, Copy)]
@@ -20,21 +21,24 @@ pub enum Word {
 fn name_rest(text: &[u8], room: usize) -> Result<&[u8], Stuck>
     ensures { NameRead room text.now result }
 {
-    match text {
-        [b, rest @ ..] if is_name_byte(*b) => {
-            if room == 0 {
-                Err(Stuck { left: text.len() })
-            } else {
-                name_rest(rest, room - 1)
-            }
+    let mut left = text;
+    let mut spare = room;
+    'bytes: while let [b, rest @ ..] = left {
+        if !is_name_byte(*b) {
+            return Ok(left);
         }
-        _ => Ok(text),
+        if spare == 0 {
+            return Err(Stuck { left: left.len() });
+        }
+        left = rest;
+        spare -= 1;
     }
+    Ok(left)
 }
 
 // "*" or a name.
-fn test<'a>(text: &'a [u8], sheet: &[u8], draft: &mut Draft) -> Result<&'a [u8], Stuck>
-    ensures { TestRead sheet.now text.now draft.old draft.new result }
+fn test<'a, N: Naming>(text: &'a [u8], names: &N, draft: &mut Draft) -> Result<&'a [u8], Stuck>
+    ensures { TestRead (N.labels names.now) text.now draft.old draft.new result }
 {
     match text {
         [b'*', rest @ ..] => {
@@ -49,8 +53,8 @@ fn test<'a>(text: &'a [u8], sheet: &[u8], draft: &mut Draft) -> Result<&'a [u8],
             Ok(rest)
         }
         [b, more @ ..] if is_letter(*b) => {
-            let rest = name_rest(more, 23)?;
-            match label(sheet, &text[..text.len() - rest.len()]) {
+            let rest = name_rest(more, MOST_NAME - 1)?;
+            match names.label(&text[..text.len() - rest.len()]) {
                 Some(l) => add(
                     draft,
                     Part {
@@ -106,17 +110,21 @@ fn join_word(text: &[u8]) -> Result<(Word, &[u8]), Stuck>
 
 // An axis, a test and at most one filter.
 #[cycle(atom_filter_joins_path_step)]
-fn step<'a>(text: &'a [u8], sheet: &[u8], draft: &mut Draft) -> Result<(Axis, &'a [u8]), Stuck>
-    ensures { StepRead sheet.now text.now draft.old draft.new result }
+fn step<'a, N: Naming>(
+    text: &'a [u8],
+    names: &N,
+    draft: &mut Draft,
+) -> Result<(Axis, &'a [u8]), Stuck>
+    ensures { StepRead (N.labels names.now) text.now draft.old draft.new result }
 {
     count(draft);
     let (axis, more) = read_axis(text)?;
-    let rest = test(more, sheet, draft)?;
+    let rest = test(more, names, draft)?;
     match rest {
         [b'[', inner @ ..] => {
             let here = root(draft);
             enter(draft, inner.len());
-            let after = filter(inner, sheet, draft)?;
+            let after = filter(inner, names, draft)?;
             let end = shut(after, b']')?;
             leave(draft);
             join(draft, Tag::Filtered, here);
@@ -128,14 +136,14 @@ fn step<'a>(text: &'a [u8], sheet: &[u8], draft: &mut Draft) -> Result<(Axis, &'
 
 // A path in a filter: steps joined by "/".
 #[cycle(atom_filter_joins_path_step)]
-fn path<'a>(text: &'a [u8], sheet: &[u8], draft: &mut Draft) -> Result<&'a [u8], Stuck>
-    ensures { PathRead sheet.now text.now draft.old draft.new result }
+fn path<'a, N: Naming>(text: &'a [u8], names: &N, draft: &mut Draft) -> Result<&'a [u8], Stuck>
+    ensures { PathRead (N.labels names.now) text.now draft.old draft.new result }
 {
-    let (axis, rest) = step(text, sheet, draft)?;
+    let (axis, rest) = step(text, names, draft)?;
     match rest {
         [b'/', more @ ..] => {
             let here = root(draft);
-            let end = path(more, sheet, draft)?;
+            let end = path(more, names, draft)?;
             join(draft, Tag::Then, here);
             over(draft, Tag::Along(axis));
             Ok(end)
@@ -149,13 +157,13 @@ fn path<'a>(text: &'a [u8], sheet: &[u8], draft: &mut Draft) -> Result<&'a [u8],
 
 // A path, "(" and a filter and ")", or "not(" and a filter and ")".
 #[cycle(atom_filter_joins_path_step)]
-fn atom<'a>(text: &'a [u8], sheet: &[u8], draft: &mut Draft) -> Result<&'a [u8], Stuck>
-    ensures { AtomRead sheet.now text.now draft.old draft.new result }
+fn atom<'a, N: Naming>(text: &'a [u8], names: &N, draft: &mut Draft) -> Result<&'a [u8], Stuck>
+    ensures { AtomRead (N.labels names.now) text.now draft.old draft.new result }
 {
     match text {
         [b'(', more @ ..] => {
             enter(draft, more.len());
-            let rest = filter(more, sheet, draft)?;
+            let rest = filter(more, names, draft)?;
             leave(draft);
             shut(rest, b')')
         }
@@ -163,34 +171,34 @@ fn atom<'a>(text: &'a [u8], sheet: &[u8], draft: &mut Draft) -> Result<&'a [u8],
             let inner = word(more, b"ot(")?;
             count(draft);
             enter(draft, inner.len());
-            let rest = filter(inner, sheet, draft)?;
+            let rest = filter(inner, names, draft)?;
             let end = shut(rest, b')')?;
             leave(draft);
             over(draft, Tag::Not);
             Ok(end)
         }
-        _ => path(text, sheet, draft),
+        _ => path(text, names, draft),
     }
 }
 
 // An atom and what is joined to it.
 #[cycle(atom_filter_joins_path_step)]
-fn filter<'a>(text: &'a [u8], sheet: &[u8], draft: &mut Draft) -> Result<&'a [u8], Stuck>
-    ensures { FilterRead sheet.now text.now draft.old draft.new result }
+fn filter<'a, N: Naming>(text: &'a [u8], names: &N, draft: &mut Draft) -> Result<&'a [u8], Stuck>
+    ensures { FilterRead (N.labels names.now) text.now draft.old draft.new result }
 {
-    let rest = atom(text, sheet, draft)?;
-    joins(rest, sheet, draft, None)
+    let rest = atom(text, names, draft)?;
+    joins(rest, names, draft, None)
 }
 
 // What is joined to the last atom. An `and` is joined at once; the left side of an `or` waits until its right side is complete.
 #[cycle(atom_filter_joins_path_step)]
-fn joins<'a>(
+fn joins<'a, N: Naming>(
     text: &'a [u8],
-    sheet: &[u8],
+    names: &N,
     draft: &mut Draft,
     waiting: Option<usize>,
 ) -> Result<&'a [u8], Stuck>
-    ensures { JoinsRead sheet.now waiting text.now draft.old draft.new result }
+    ensures { JoinsRead (N.labels names.now) waiting text.now draft.old draft.new result }
 {
     match text {
         [b' ', more @ ..] => {
@@ -199,16 +207,16 @@ fn joins<'a>(
                 Word::And => {
                     let left = root(draft);
                     count(draft);
-                    let rest = atom(next, sheet, draft)?;
+                    let rest = atom(next, names, draft)?;
                     join(draft, Tag::And, left);
-                    joins(rest, sheet, draft, waiting)
+                    joins(rest, names, draft, waiting)
                 }
                 Word::Or => {
                     close(draft, waiting);
                     let left = root(draft);
                     count(draft);
-                    let rest = atom(next, sheet, draft)?;
-                    joins(rest, sheet, draft, Some(left))
+                    let rest = atom(next, names, draft)?;
+                    joins(rest, names, draft, Some(left))
                 }
             }
         }
@@ -220,11 +228,11 @@ fn joins<'a>(
 }
 
 // The query's own path: each step is joined with the query before it.
-pub fn spine<'a>(text: &'a [u8], sheet: &[u8], draft: &mut Draft) -> Result<&'a [u8], Stuck>
-    ensures { SpineRead sheet.now text.now draft.old draft.new result }
+pub fn spine<'a, N: Naming>(text: &'a [u8], names: &N, draft: &mut Draft) -> Result<&'a [u8], Stuck>
+    ensures { SpineRead (N.labels names.now) text.now draft.old draft.new result }
 {
     let before = root(draft);
-    let (axis, rest) = step(text, sheet, draft)?;
+    let (axis, rest) = step(text, names, draft)?;
     let here = root(draft);
     add(
         draft,
@@ -235,7 +243,7 @@ pub fn spine<'a>(text: &'a [u8], sheet: &[u8], draft: &mut Draft) -> Result<&'a 
         },
     );
     match rest {
-        [b'/', more @ ..] => spine(more, sheet, draft),
+        [b'/', more @ ..] => spine(more, names, draft),
         _ => Ok(rest),
     }
 }

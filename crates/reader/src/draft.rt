@@ -2,7 +2,8 @@
 ghost use Rattle.std.specs.Prelude.{◌≡◌};
 ghost use Rattle.reader.specs.Drafts.{started};
 
-use crate::table::{Part, Tag};
+use model::limits::MOST_PARTS;
+use table::part::Part;
 
 // A reader stopped with so many bytes left.
 #[derive(Clone, Copy)]
@@ -10,18 +11,9 @@ pub struct Stuck {
     pub left: usize,
 }
 
-// The greatest length of a query.
-pub const MOST_LENGTH: usize = 16;
-
-// The most parts of a query of that length.
-pub const MOST_PARTS: usize = 97;
-
-// The most "[" and "(" that are open at once.
-pub const MOST_OPEN: usize = 8;
-
 #[derive(Clone, Copy)]
 pub struct Draft {
-    pub parts: [Part; 97],
+    pub parts: [Part; MOST_PARTS],
     // How many parts are written; what finds no room is dropped.
     pub used: usize,
     // The length so far; one more than the greatest stands for all above.
@@ -37,13 +29,8 @@ pub struct Draft {
 pub fn start() -> Draft
     ensures { result ≡ started }
 {
-    let first = Part {
-        tag: Tag::First,
-        first: 0,
-        second: 0,
-    };
     Draft {
-        parts: [first; 97],
+        parts: [Part::UNUSED; MOST_PARTS],
         used: 1,
         count: 0,
         unknown: None,

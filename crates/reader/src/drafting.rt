@@ -2,8 +2,9 @@
 ghost use Rattle.std.specs.Prelude.{◌≡◌, ◌-◌};
 ghost use Rattle.reader.specs.Drafts.{added, counted, noted, entered, exited, joined_to, reached, closed};
 
-use crate::draft::{Draft, MOST_LENGTH, MOST_OPEN, MOST_PARTS};
-use crate::table::{Part, Tag};
+use crate::draft::Draft;
+use model::limits::{MOST_LENGTH, MOST_OPEN, MOST_PARTS};
+use table::part::{Part, Tag};
 
 // The place of the part that was written last.
 pub fn root(draft: &Draft) -> usize
@@ -15,8 +16,9 @@ pub fn root(draft: &Draft) -> usize
 pub fn add(draft: &mut Draft, part: Part)
     ensures { draft.new ≡ added part draft.old }
 {
-    if draft.used < MOST_PARTS {
-        draft.parts[draft.used] = part;
+    let at = draft.used;
+    if at < MOST_PARTS {
+        draft.parts[at] = part;
         draft.used += 1;
     }
 }

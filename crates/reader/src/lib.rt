@@ -5,4 +5,3 @@ mod axes;
 pub mod descent;
 pub mod draft;
 mod drafting;
-pub mod table;

@@ -1,7 +1,7 @@
-use Rattle.std.proofs.Common.{◌<◌, List, [], ◌∷◌, ◌++◌, length, get_or, sym, ap, ◌∙◌, arith}
+use Rattle.std.proofs.Common.{◌≡◌, ℕ, ◌<◌, List, [], ◌∷◌, ◌++◌, length, get_or, take, sym, refl, ap, ◌∙◌, arith}
 use Rattle.std.proofs.lemmas.List.{take_more, take_more_set, drop-set-lt}
-use Rattle.reader.specs.declared.table.Part.{Part}
-use Rattle.reader.specs.declared.table.Tag.TheVariants.{First}
+use Rattle.table.specs.declared.part.Part.{Part}
+use Rattle.table.specs.declared.part.Tag.TheVariants.{First}
 use Rattle.reader.specs.Drafts.{part}
 use Rattle.query.proofs.copy.Goals as goal
 
@@ -15,3 +15,16 @@ loop-i-preserved c =
       take_more_set l.table l.i x h ∙ ap (λ (ys : List Part). ys ++ (x ∷ [])) l.invariant.0 ∙ sym (take_more ps l.i (part First 0 0) k),
       drop-set-lt c.args.draft.now.used l.table l.i x (omega arith) ∙ l.invariant.1,
     )
+
+pub returns : goal.returns
+returns c =
+    let l = c.loop-i in
+    let n = c.args.draft.now.used in
+    let e : l.i ≡ n = omega arith in
+    record {
+      between = l.table;
+      long = omega arith;
+      front = ap (λ (k : ℕ). take k l.table) (sym e) ∙ l.invariant.0 ∙ ap (λ (k : ℕ). take k c.args.draft.now.parts) e;
+      kept = l.invariant.1;
+      named = refl;
+    }

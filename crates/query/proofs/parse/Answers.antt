@@ -4,16 +4,16 @@ use Rattle.query.proofs.Whole.{parsed_whole, parsed_part, parsed_stuck, parsed_n
 use Rattle.query.proofs.parse.Goals as goal
 
 pub returns-then-rest-eq0 : goal.returns-then-rest-eq0
-returns-then-rest-eq0 c = parsed_whole c.args.sheet.now c.args.text.now _ c.in-Ok.rest.now _ _ (front c.args.text.now 47 (search rules) (search rules)) c.in-Ok.ensures (search rules)
+returns-then-rest-eq0 g c = parsed_whole (g.N.Naming.labels c.args.names.now) c.args.text.now _ c.in-Ok.rest.now _ _ (front c.args.text.now 47 (search rules) (search rules)) c.in-Ok.ensures (search rules)
 
 pub returns-else-rest-eq0 : goal.returns-else-rest-eq0
-returns-else-rest-eq0 c = parsed_part c.args.sheet.now c.args.text.now _ c.in-Ok.rest.now _ _ (front c.args.text.now 47 (search rules) (search rules)) c.in-Ok.ensures (search rules)
+returns-else-rest-eq0 g c = parsed_part (g.N.Naming.labels c.args.names.now) c.args.text.now _ c.in-Ok.rest.now _ _ (front c.args.text.now 47 (search rules) (search rules)) c.in-Ok.ensures (search rules)
 
 pub returns-in-Err : goal.returns-in-Err
-returns-in-Err c = parsed_stuck c.args.text.now _ c.in-Err.e.left (front c.args.text.now 47 (search rules) (search rules)) c.in-Err.ensures
+returns-in-Err g c = parsed_stuck c.args.text.now _ c.in-Err.e.left (front c.args.text.now 47 (search rules) (search rules)) c.in-Err.ensures
 
 pub returns-in_default : goal.returns-in_default
-returns-in_default c = parsed_none c.args.text.now (search rules)
+returns-in_default g c = parsed_none c.args.text.now (search rules)
 
 pub returns-in_default-2 : goal.returns-in_default-2
-returns-in_default-2 c = parsed_none c.args.text.now (search rules)
+returns-in_default-2 g c = parsed_none c.args.text.now (search rules)

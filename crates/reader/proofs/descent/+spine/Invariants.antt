@@ -2,4 +2,4 @@ use Rattle.std.proofs.Common.{length}
 use Rattle.reader.proofs.descent.+spine.Given as goal
 
 abbrev pub decreases-spine : goal.decreases-spine
-decreases-spine l = length l.text.now
+decreases-spine g l = length l.text.now

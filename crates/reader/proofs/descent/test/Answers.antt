@@ -1,6 +1,5 @@
 use Rattle.std.proofs.Common.{◌≡◌, ℕ, ◌-◌, length, get_or, take, Option, sym, ap, ◌∙◌, rules}
 use Rattle.std.proofs.lemmas.Result.{err_from_is_err_and}
-use Rattle.names.specs.Sheet.{label_in}
 use Rattle.reader.specs.Drafts.{labelled, noted}
 use Rattle.reader.proofs.Moves.{front}
 use Rattle.reader.proofs.Compose.{star_read, name_stops, name_read, no_test}
@@ -8,29 +7,29 @@ use Rattle.reader.proofs.descent.test.Goals as goal
 use Rattle.reader.proofs.descent.test.Goals.{in-Some, in-None, in_default-via-then-text-lt1, in_default-via-in-len1-up+else-is_letter}
 
 pub returns-in_err-rest-in-len1-up : goal.returns-in_err-rest-in-len1-up
-returns-in_err-rest-in-len1-up c =
+returns-in_err-rest-in-len1-up g c =
     let p = err_from_is_err_and c.from_residual.result c.from_residual.ensures.1 in
     let x = c.args.text.now in
     rw (p.1, p.2) (name_stops (get_or x 0 0) x _ _ (front x (get_or x 0 0) (search rules) (search rules)) (sym c.if-is_letter.ensures) c.in_err-rest-in-len1-up.ensures)
 
 pub returns-in-42 : goal.returns-in-42
-returns-in-42 c = star_read c.args.sheet.now c.args.text.now _ _ _ (front c.args.text.now 42 (search rules) (search rules)) c.add.ensures
+returns-in-42 g c = star_read (g.N.Naming.labels c.args.names.now) c.args.text.now _ _ _ (front c.args.text.now 42 (search rules) (search rules)) c.add.ensures
 
 pub returns-after-label : goal.returns-after-label
-returns-after-label c =
+returns-after-label g c =
     let x = c.args.text.now in
     let d = c.in_ok-rest-in-len1-up.ensures in
     let n = take (length x - length c.in_ok-rest-in-len1-up.rest.now) x in
-    let m : c.match-label.draft ≡ labelled (label_in c.args.sheet.now n) (length x) c.args.draft.now =
+    let m : c.match-label.draft ≡ labelled (g.N.Naming.labels c.args.names.now n) (length x) c.args.draft.now =
     elim c.match-label.branch [
       | in-Some w ↦ w.draft-is ∙ w.add-in-Some.ensures ∙ ap (λ (o : Option ℕ). labelled o (length x) c.args.draft.now) w.in-Some.ensures
       | in-None w ↦ w.draft-is ∙ w.note.ensures ∙ ap (noted (length x)) w.add-in-None.ensures ∙ ap (λ (o : Option ℕ). labelled o (length x) c.args.draft.now) w.in-None.ensures
     ]
     in
-    name_read c.args.sheet.now (get_or x 0 0) d.0 x _ c.in_ok-rest-in-len1-up.rest.now c.args.draft.now c.match-label.draft (front x (get_or x 0 0) (search rules) (search rules)) (sym c.if-is_letter.ensures) d.1 d.2 d.3 m
+    name_read (g.N.Naming.labels c.args.names.now) (get_or x 0 0) d.0 x _ c.in_ok-rest-in-len1-up.rest.now c.args.draft.now c.match-label.draft (front x (get_or x 0 0) (search rules) (search rules)) (sym c.if-is_letter.ensures) d.1 d.2 d.3 m
 
 pub returns-in_default : goal.returns-in_default
-returns-in_default c =
+returns-in_default g c =
     elim c.in_default.branch [
       | in_default-via-then-text-lt1 w ↦ no_test c.args.text.now (search rules) (search rules)
       | in_default-via-in-len1-up+else-is_letter w ↦ no_test c.args.text.now (search rules) (λ h. sym w.is_letter.ensures ∙ w.if-is_letter.false)

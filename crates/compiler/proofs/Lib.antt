@@ -1,6 +1,0 @@
-pub mod Known
-pub mod Built
-pub mod Noted
-pub mod Deep
-pub mod Whole
-pub mod Exact

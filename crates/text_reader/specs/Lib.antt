@@ -1,3 +1,0 @@
-pub mod Spells
-pub mod Drafts
-pub mod Parsed

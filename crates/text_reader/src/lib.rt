@@ -1,7 +1,0 @@
-// Readers of query texts: recursive descent that drafts the parts of a table, in one pass.
-#![tactic(auto)]
-
-mod axes;
-pub mod descent;
-pub mod draft;
-mod drafting;
