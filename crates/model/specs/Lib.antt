@@ -3,6 +3,7 @@ pub mod Receipt
 pub mod Rules
 pub mod Refusals
 pub mod Sentences
+pub mod Words
 pub mod Runs
 pub mod Roll
 pub mod Reading

@@ -1,7 +1,10 @@
-ghost use Rattle.std.specs.Prelude.{◌≡◌, ℕ, List};
+ghost use Rattle.std.specs.Prelude.{◌≡◌, ℕ, List, Some};
 ghost use Rattle.model.specs.Refusals.{receipt_refusal, roll_refusal};
+ghost use Rattle.model.specs.Words.{layer_text, refusal_text};
 ghost use Rattle.model.specs.Sentences.{receipt_sentence, roll_sentence};
 ghost use Rattle.model.specs.declared.fault.Refusal.{Refusal};
+
+use std::fmt;
 
 // The part of the product that refuses.
 #[derive(Clone, Copy, PartialEq, Eq, Debug)]
@@ -14,12 +17,44 @@ pub enum Layer {
     Count,
 }
 
+impl Layer {
+    // The layer in a word.
+    pub fn name(self) -> &'static str
+        ensures { result.now ≡ layer_text self }
+    {
+        match self {
+            Layer::Till => "till",
+            Layer::Receipt => "receipt",
+            Layer::Names => "names",
+            Layer::Query => "query",
+            Layer::Roll => "roll",
+            Layer::Count => "count",
+        }
+    }
+}
+
+impl fmt::Display for Layer {
+    ghost output = { λ l. Some (layer_text l) };
+
+    fn fmt<W: fmt::Write>(&self, f: &mut fmt::Formatter<W>) -> fmt::Result {
+        f.write_str(self.name())
+    }
+}
+
 // A refusal as callers are told of it: its number, the layer that refuses, and the place of what is wrong.
 #[derive(Clone, Copy, PartialEq, Eq, Debug)]
 pub struct Refusal {
     pub number: u8,
     pub layer: Layer,
     pub place: usize,
+}
+
+impl fmt::Display for Refusal {
+    ghost output = { λ r. Some (refusal_text r) };
+
+    fn fmt<W: fmt::Write>(&self, f: &mut fmt::Formatter<W>) -> fmt::Result {
+        write!(f, "{}, layer {}, place {}", self.number, self.layer, self.place)
+    }
 }
 
 // A reason to refuse, whose number, layer and place a definition gives.

@@ -1,7 +1,7 @@
 -- What the programs print of a refusal: its number, its layer, its place and a sentence.
 use Rattle.std.specs.Prelude.{ℕ, List, ◌++◌, codes, decimal}
 use Rattle.model.specs.declared.fault.Refusal.{Refusal}
-use Rattle.report.specs.Layers.{layer_text}
+use Rattle.model.specs.Words.{layer_text}
 
 -- a refusal with the sentence of its fault
 abbrev pub fault_text : Refusal → List ℕ → List ℕ
