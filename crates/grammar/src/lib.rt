@@ -4,15 +4,11 @@
 ghost use Rattle.grammar.specs.Theorems.{QueryOrOnePlace, Unambiguous};
 
 // Every text is a query or breaks the grammar at one place.
-pub fn one_place() -> u8
+pub fn one_place()
     ensures { QueryOrOnePlace }
-{
-    0
-}
+{}
 
 // A text has at most one tree, and so at most one meaning.
-pub fn one_tree() -> u8
+pub fn one_tree()
     ensures { Unambiguous }
-{
-    0
-}
+{}

@@ -5,15 +5,11 @@ ghost use Rattle.plane.specs.Steady.{RelationsStay};
 ghost use Rattle.plane.specs.Tree.{PlaneIsTree};
 
 // The plane's descendants, children and following elements are those of the tree that the parents make.
-pub fn plane_is_tree() -> u8
+pub fn plane_is_tree()
     ensures { PlaneIsTree }
-{
-    0
-}
+{}
 
 // Labels, and where the axes lead between present elements, stay as the receipt goes on, and where an axis does not grow nothing is added.
-pub fn relations_stay() -> u8
+pub fn relations_stay()
     ensures { RelationsStay }
-{
-    0
-}
+{}

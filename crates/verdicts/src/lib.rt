@@ -6,29 +6,21 @@ ghost use Rattle.verdicts.specs.Laws.{FormulaIsSelection, KindsKeepTheirLaws};
 ghost use Rattle.verdicts.specs.Sound.{VerdictsAreSound};
 
 // The formula of a query, asked for yes or no, says what the query selects.
-pub fn formula_is_selection() -> u8
+pub fn formula_is_selection()
     ensures { FormulaIsSelection }
-{
-    0
-}
+{}
 
 // Yes and no, and the three verdicts, keep the laws of a kind of verdict.
-pub fn kinds_keep_their_laws() -> u8
+pub fn kinds_keep_their_laws()
     ensures { KindsKeepTheirLaws }
-{
-    0
-}
+{}
 
 // On a lawful receipt what is sure stays selected and what is out stays out, whatever calls follow; nothing is undecided once the receipt has ended, nor ever for a query whose path looks forward and whose filters look back.
-pub fn verdicts_are_sound() -> u8
+pub fn verdicts_are_sound()
     ensures { VerdictsAreSound }
-{
-    0
-}
+{}
 
 // The selected entries of a show are the audit's list, so counts and points are equal at every rate; what is sure is selected, and what is selected is listed.
-pub fn show_and_audit_agree() -> u8
+pub fn show_and_audit_agree()
     ensures { ShowAndAuditAgree }
-{
-    0
-}
+{}
