@@ -2,24 +2,11 @@
 #![tactic(auto)]
 
 use model::fault::Fault;
-use report::print_refusal;
+use report::{OrDash, print_refusal};
 use roll::Roll;
 use std::alloc::{AllocError, Global};
-use std::{fmt, io};
+use std::io;
 use store::Store;
-
-// A relative: its rank, or "-" where there is none.
-#[derive(Drop)]
-struct Relative(Option<usize>);
-
-impl fmt::Display for Relative {
-    fn fmt<W: fmt::Write>(&self, f: &mut fmt::Formatter<W>) -> fmt::Result {
-        match self.0 {
-            Some(rank) => write!(f, "{rank}"),
-            None => write!(f, "-"),
-        }
-    }
-}
 
 // The bytes that a line writes, or none where it writes something else.
 fn read_bytes(heap: Global, line: &str) -> Result<Option<Vec<u8>>, AllocError> {
@@ -33,29 +20,27 @@ fn read_bytes(heap: Global, line: &str) -> Result<Option<Vec<u8>>, AllocError> {
     Ok(Some(bytes))
 }
 
-fn print_element(rt: &HostRuntime, roll: &Roll, rank: usize) -> io::Result<()> {
-    let label = roll.label(rank).unwrap_or(0);
-    let level = roll.level(rank).unwrap_or(0);
-    let parent = Relative(roll.parent(rank));
-    let child = Relative(roll.first_child(rank));
-    let next = Relative(roll.next_sibling(rank));
-    let previous = Relative(roll.previous_sibling(rank));
+fn print_element(rt: &impl Print, roll: &Roll, rank: usize) -> io::Result<()> {
     println!(rt;
-        "{rank}: label {label}, level {level}, parent {parent}, first child {child}, next {next}, previous {previous}"
+        "{rank}: label {}, level {}, parent {}, first child {}, next {}, previous {}",
+        OrDash(roll.label(rank)),
+        OrDash(roll.level(rank)),
+        OrDash(roll.parent(rank)),
+        OrDash(roll.first_child(rank)),
+        OrDash(roll.next_sibling(rank)),
+        OrDash(roll.previous_sibling(rank))
     )
 }
 
-fn print_receipt(rt: &HostRuntime, roll: &Roll) -> io::Result<()> {
-    let count = roll.count();
-    let depth = roll.depth();
-    println!(rt; "{count} elements, depth {depth}")?;
-    for rank in 0..count {
+fn print_receipt(rt: &impl Print, roll: &Roll) -> io::Result<()> {
+    println!(rt; "{} elements, depth {}", roll.count(), roll.depth())?;
+    for rank in 0..roll.count() {
         print_element(rt, roll, rank)?;
     }
     Ok(())
 }
 
-fn tell(rt: &HostRuntime, bytes: &[u8]) -> io::Result<()> {
+fn tell(rt: &impl Print, bytes: &[u8]) -> io::Result<()> {
     let roll = Roll::read(bytes);
     match roll.fault() {
         Some(fault) => print_refusal(rt, fault.refusal()),

@@ -2,7 +2,7 @@
 #![tactic(auto)]
 
 ghost use Rattle.std.specs.Prelude.{Some};
-ghost use Rattle.report.specs.Told.{fault_text};
+ghost use Rattle.report.specs.Told.{fault_text, text_or_dash};
 
 use model::fault::{Described, Fault, Refusal};
 use std::{fmt, io};
@@ -30,5 +30,20 @@ impl<F: Fault + Described> fmt::Display for Report<F> {
             "refused by {number}, {layer}, at {place}: {}",
             self.0.sentence()
         )
+    }
+}
+
+// A value in its own words, or "-" where there is none.
+#[derive(Clone, Copy)]
+pub struct OrDash<T>(pub Option<T>);
+
+impl<T: fmt::Display> fmt::Display for OrDash<T> {
+    ghost output = { λ x. text_or_dash T.output x.0 };
+
+    fn fmt<W: fmt::Write>(&self, f: &mut fmt::Formatter<W>) -> fmt::Result {
+        match &self.0 {
+            Some(value) => write!(f, "{value}"),
+            None => f.write_str("-"),
+        }
     }
 }

@@ -3,7 +3,7 @@
 
 use model::action::Action;
 use model::fault::Fault;
-use report::print_refusal;
+use report::{OrDash, print_refusal};
 use roll::Roll;
 use roll::write::write_roll;
 use script::{Command, read_command};
@@ -14,31 +14,70 @@ use till::Till;
 // Room for the roll of a full receipt.
 const ROLL_SPACE: usize = 520;
 
-fn open(rt: &HostRuntime, till: &mut Till, label: u16) -> io::Result<()> {
-    match till.open(label) {
-        Ok(rank) => {
-            let level = till.level(rank).unwrap_or(0);
-            println!(rt; "opened label {label} at rank {rank}, level {level}")
+// The receipt that is rung up, and memory for its roll.
+#[derive(Drop)]
+struct Desk {
+    till: Till,
+    memory: [u8; ROLL_SPACE],
+}
+
+impl Desk {
+    fn new() -> Desk {
+        Desk {
+            till: Till::new(),
+            memory: [0; ROLL_SPACE],
         }
-        Err(fault) => print_refusal(rt, fault.refusal()),
+    }
+
+    fn open(&mut self, rt: &impl Print, label: u16) -> io::Result<()> {
+        let level = self.till.depth();
+        match self.till.open(label) {
+            Ok(rank) => println!(rt; "opened label {label} at rank {rank}, level {level}"),
+            Err(fault) => print_refusal(rt, fault.refusal()),
+        }
+    }
+
+    fn close(&mut self, rt: &impl Print) -> io::Result<()> {
+        let innermost = next_place(&self.till).parent;
+        match self.till.close() {
+            Ok(()) => println!(rt;
+                "closed rank {}, depth {}",
+                OrDash(innermost),
+                self.till.depth()
+            ),
+            Err(fault) => print_refusal(rt, fault.refusal()),
+        }
+    }
+
+    // Writes the roll into so many bytes of the memory, or into all of it, and reads it back.
+    fn write(&mut self, rt: &impl Print, space: Option<u16>) -> io::Result<()> {
+        let room = space.map_or(ROLL_SPACE, |n| usize::from(n).min(ROLL_SPACE));
+        let memory = &mut self.memory[..];
+        match write_roll(&self.till, &mut memory[..room]) {
+            Ok(length) => {
+                let bytes = &memory[..length];
+                print_bytes(rt, bytes)?;
+                read_back(rt, &self.till, bytes)
+            }
+            Err(fault) => print_refusal(rt, fault.refusal()),
+        }
+    }
+
+    fn obey(&mut self, rt: &impl Print, command: Command) -> io::Result<()> {
+        match command {
+            Command::Begin => {
+                self.till = Till::new();
+                println!(rt; "a new receipt")
+            }
+            Command::Act(Action::Open(label)) => self.open(rt, label),
+            Command::Act(Action::Close) => self.close(rt),
+            Command::Roll(space) => self.write(rt, space),
+        }
     }
 }
 
-fn close(rt: &HostRuntime, till: &mut Till) -> io::Result<()> {
-    let innermost = next_place(till).parent;
-    match till.close() {
-        Ok(()) => {
-            let rank = innermost.unwrap_or(0);
-            let depth = till.depth();
-            println!(rt; "closed rank {rank}, depth {depth}")
-        }
-        Err(fault) => print_refusal(rt, fault.refusal()),
-    }
-}
-
-fn print_bytes(rt: &HostRuntime, bytes: &[u8]) -> io::Result<()> {
-    let length = bytes.len();
-    print!(rt; "roll of {length} bytes:")?;
+fn print_bytes(rt: &impl Print, bytes: &[u8]) -> io::Result<()> {
+    print!(rt; "roll of {} bytes:", bytes.len())?;
     for byte in bytes {
         print!(rt; " {byte:02X}")?;
     }
@@ -46,7 +85,7 @@ fn print_bytes(rt: &HostRuntime, bytes: &[u8]) -> io::Result<()> {
 }
 
 // Reads a roll that was just written, and says whether it tells the till's receipt.
-fn read_back(rt: &HostRuntime, till: &Till, bytes: &[u8]) -> io::Result<()> {
+fn read_back(rt: &impl Print, till: &Till, bytes: &[u8]) -> io::Result<()> {
     let roll = Roll::read(bytes);
     match roll.fault() {
         Some(fault) => print_refusal(rt, fault.refusal()),
@@ -55,50 +94,12 @@ fn read_back(rt: &HostRuntime, till: &Till, bytes: &[u8]) -> io::Result<()> {
     }
 }
 
-// Writes the roll into so many bytes of the memory, or into all of it, and reads it back.
-fn write(
-    rt: &HostRuntime,
-    till: &Till,
-    memory: &mut [u8; ROLL_SPACE],
-    space: Option<u16>,
-) -> io::Result<()> {
-    let room = match space {
-        Some(n) => (n as usize).min(ROLL_SPACE),
-        None => ROLL_SPACE,
-    };
-    match write_roll(till, &mut memory[0..room]) {
-        Ok(length) => {
-            print_bytes(rt, &memory[0..length])?;
-            read_back(rt, till, &memory[0..length])
-        }
-        Err(fault) => print_refusal(rt, fault.refusal()),
-    }
-}
-
-fn obey(
-    rt: &HostRuntime,
-    till: &mut Till,
-    memory: &mut [u8; ROLL_SPACE],
-    command: Command,
-) -> io::Result<()> {
-    match command {
-        Command::Begin => {
-            *till = Till::new();
-            println!(rt; "a new receipt")
-        }
-        Command::Act(Action::Open(label)) => open(rt, till, label),
-        Command::Act(Action::Close) => close(rt, till),
-        Command::Roll(space) => write(rt, till, memory, space),
-    }
-}
-
 fn main(rt: HostRuntime) -> io::Result<()> {
-    let mut till = Till::new();
-    let mut memory = [0; ROLL_SPACE];
+    let mut desk = Desk::new();
     for line in rt.lines(rt.alloc()) {
         let text = line?;
         match read_command(text.as_bytes()) {
-            Some(command) => obey(&rt, &mut till, &mut memory, command)?,
+            Some(command) => desk.obey(&rt, command)?,
             None => println!(rt; "no such command: {text}")?,
         }
     }
