@@ -1,15 +1,16 @@
--- Exact: a text has one answer alone.
+-- Exact: a text that fits is refused by nothing, a refused text by one fault alone, and a text has one answer.
 use Rattle.std.proofs.Common.{◌≡◌, ℕ, ◌-◌, List, length, Some, None, Ok, Err, Option, Result, sym, refl, ap, ◌∙◌, arith}
 use Rattle.model.specs.Grammar.{PathTree, Query}
 use Rattle.grammar.proofs.Stopping.{one_place}
 use Rattle.grammar.proofs.Unique.{unambiguous}
 use Rattle.query.specs.declared.QueryFault.TheVariants.{BadSize, Broken, TooDeep, TooLong, UnknownName, ShortTable, BadSheet}
-use Rattle.model.specs.Query.{path_length}
-use Rattle.names.specs.declared.NamesFault.{NamesFault}
 use Rattle.names.specs.Labels.{Labels}
 use Rattle.table.specs.declared.part.Part.{Part}
 use Rattle.query.specs.declared.QueryFault.{QueryFault}
-use Rattle.query.specs.Answers.{Sound, Accepted, Refused, Answered, AnsweredWith, ReadsAsWritten, deep_place, length_of, meaning, unknown_left}
+use Rattle.query.specs.declared.QuerySize.{QuerySize}
+use Rattle.query.specs.Answers.{Sound, Fits, Refused, Answered, deep_place, length_of, steps_of, unknown_left}
+use Rattle.query.specs.Compiled.{CompiledAs}
+use Rattle.query.specs.Theorems.{FittingIsAccepted, OneFault}
 
 -- an option is not both
 none_some : (o : Option ℕ) (u : ℕ) → o ≡ None → o ≡ Some u → ⊥
@@ -25,19 +26,16 @@ same_length t labels p q a b = ap (length_of labels) (unambiguous t p q a.reads 
 same_unknown : (t : List ℕ) (labels : Labels) (p q : PathTree) → Sound t p → Sound t q → unknown_left labels p ≡ unknown_left labels q
 same_unknown t labels p q a b = ap (unknown_left labels) (unambiguous t p q a.reads b.reads)
 
--- an accepted text is refused by nothing
-module _ (t : List ℕ) (labels : Labels) (old new : List Part) (l : ℕ) (k : Accepted t labels old new l) where
-  not_refused : (f : QueryFault) → Refused t labels (length old) f → ⊥
-  not_refused (BadSheet f) r = r
-  not_refused BadSize r = r k.sound.sized
-  not_refused (Broken p) r = r.1.whole (k.tree, k.sound.reads)
-  not_refused (TooDeep p) r = none_some (deep_place t) p k.sound.shallow r.2
-  not_refused TooLong r = omega (arith, k.short, k.length_is, r.2, same_length t labels k.tree r.0 k.sound r.1)
-  not_refused (UnknownName p) r = none_some (unknown_left labels r.0) r.3.0 (sym (same_unknown t labels k.tree r.0 k.sound r.1) ∙ k.known) r.3.1
-  not_refused ShortTable r = omega (arith, k.room, k.length_is, r.4, same_length t labels k.tree r.0 k.sound r.1)
+pub fitting_is_accepted : FittingIsAccepted
+fitting_is_accepted t labels n k (BadSheet f) r = r
+fitting_is_accepted t labels n k BadSize r = r k.sound.sized
+fitting_is_accepted t labels n k (Broken p) r = r.1.whole (k.tree, k.sound.reads)
+fitting_is_accepted t labels n k (TooDeep p) r = none_some (deep_place t) p k.sound.shallow r.2
+fitting_is_accepted t labels n k TooLong r = omega (arith, k.short, r.2, same_length t labels k.tree r.0 k.sound r.1)
+fitting_is_accepted t labels n k (UnknownName p) r = none_some (unknown_left labels r.0) r.3.0 (sym (same_unknown t labels k.tree r.0 k.sound r.1) ∙ k.known) r.3.1
+fitting_is_accepted t labels n k ShortTable r = omega (arith, k.room, r.4, same_length t labels k.tree r.0 k.sound r.1)
 
--- at most one fault applies
-one_fault : (t : List ℕ) (labels : Labels) (n : ℕ) (f f' : QueryFault) → Refused t labels n f → Refused t labels n f' → f ≡ f'
+pub one_fault : OneFault
 one_fault t labels n (BadSheet f) g r s = absurd r
 one_fault t labels n BadSize (BadSheet g) r s = absurd s
 one_fault t labels n BadSize BadSize r s = refl
@@ -84,34 +82,28 @@ one_fault t labels n ShortTable TooLong r s = absurd (omega (arith, s.2, r.2, sa
 one_fault t labels n ShortTable (UnknownName q) r s = absurd (none_some (unknown_left labels s.0) s.3.0 (same_unknown t labels s.0 r.0 s.1 r.1 ∙ r.3) s.3.1)
 one_fault t labels n ShortTable ShortTable r s = refl
 
--- no two answers meet the definition
-pub one_answer : (t : List ℕ) (labels : Labels) (old new new' : List Part) (a b : Result ℕ QueryFault) → Answered t labels old new a → Answered t labels old new' b → a ≡ b
-one_answer t labels old new new' (Ok l) (Ok m) x y = ap Ok (x.length_is ∙ same_length t labels x.tree y.tree x.sound y.sound ∙ sym y.length_is)
-one_answer t labels old new new' (Ok l) (Err f) x y = absurd (not_refused t labels old new l x f y.1)
-one_answer t labels old new new' (Err f) (Ok m) x y = absurd (not_refused t labels old new' m y f x.1)
-one_answer t labels old new new' (Err f) (Err f') x y = ap Err (one_fault t labels (length old) f f' x.1 y.1)
+-- what is judged of a text, whatever the table then holds
+abbrev pub Judged : List ℕ → Labels → ℕ → Result ℕ QueryFault → Type 0
+Judged t labels n (Ok l) = (k : Fits t labels n) × (l ≡ length_of labels k.tree)
+Judged t labels n (Err f) = Refused t labels n f
 
-pub reads_as_written : (t : List ℕ) (labels : Labels) (old new : List Part) (r : Result ℕ QueryFault) → Answered t labels old new r → ReadsAsWritten t labels new r
-reads_as_written t labels old new (Err f) a = tt
-reads_as_written t labels old new (Ok l) a = λ tree e.
-    let h = a.holds ∙ ap (meaning labels) (unambiguous t a.tree tree a.sound.reads e) in
-    (h, a.length_is ∙ sym (ap path_length a.holds))
+pub one_judgement : (t : List ℕ) (labels : Labels) (n : ℕ) (a b : Result ℕ QueryFault) → Judged t labels n a → Judged t labels n b → a ≡ b
+one_judgement t labels n (Ok l) (Ok m) x y = ap Ok (x.1 ∙ same_length t labels x.0.tree y.0.tree x.0.sound y.0.sound ∙ sym y.1)
+one_judgement t labels n (Ok l) (Err f) x y = absurd (fitting_is_accepted t labels n x.0 f y)
+one_judgement t labels n (Err f) (Ok m) x y = absurd (fitting_is_accepted t labels n y.0 f x)
+one_judgement t labels n (Err f) (Err f') x y = ap Err (one_fault t labels n f f' x y)
 
--- what a call promises of its answer
-pub record Exactly (t : List ℕ) (labels : Labels) (old new : List Part) (r : Result ℕ QueryFault) : Type 0 where
-  pub only : (other : Result ℕ QueryFault) (new' : List Part) → Answered t labels old new' other → other ≡ r
-  pub written : ReadsAsWritten t labels new r
+answered_judged : (t : List ℕ) (labels : Labels) (old new : List Part) (r : Result QuerySize QueryFault) → Answered t labels old new r → Judged t labels (length old) (steps_of r)
+answered_judged t labels old new (Ok size) a = (a.fits, a.length_is)
+answered_judged t labels old new (Err f) a = a.1
 
-pub exactly : (t : List ℕ) (labels : Labels) (old new : List Part) (r : Result ℕ QueryFault) → Answered t labels old new r → Exactly t labels old new r
-exactly t labels old new r a = record { only = λ other new' x. one_answer t labels old new' new other r x a; written = reads_as_written t labels old new r a }
+compiled_judged : (t : List ℕ) (labels : Labels) (old new : List Part) (r : Result ℕ QueryFault) → CompiledAs t labels old new r → Judged t labels (length old) r
+compiled_judged t labels old new (Ok l) a = (a.fits, a.length_is)
+compiled_judged t labels old new (Err f) a = a.1
 
--- with a sheet that is refused, and with one that is not
-pub record ExactlyWith (fault : Option NamesFault) (t : List ℕ) (labels : Labels) (old new : List Part) (r : Result ℕ QueryFault) : Type 0 where
-  pub answers : AnsweredWith fault t labels old new r
-  pub only : (other : Result ℕ QueryFault) (new' : List Part) → AnsweredWith fault t labels old new' other → other ≡ r
+-- No two answers to a text differ but in their places, and no two of compiling it.
+pub one_answer : (t : List ℕ) (labels : Labels) (old new new' : List Part) (a b : Result QuerySize QueryFault) → Answered t labels old new a → Answered t labels old new' b → steps_of a ≡ steps_of b
+one_answer t labels old new new' a b x y = one_judgement t labels (length old) (steps_of a) (steps_of b) (answered_judged t labels old new a x) (answered_judged t labels old new' b y)
 
-pub by_sheet : (fault : Option NamesFault) (f : NamesFault) → fault ≡ Some f → (t : List ℕ) (labels : Labels) (table : List Part) → ExactlyWith fault t labels table table (Err (BadSheet f))
-by_sheet fault f e t labels table = rw e (record { answers = (refl, refl); only = λ other new x. x.1 })
-
-pub by_text : (fault : Option NamesFault) → fault ≡ None → (t : List ℕ) (labels : Labels) (old new : List Part) (r : Result ℕ QueryFault) → Answered t labels old new r → ((other : Result ℕ QueryFault) (new' : List Part) → Answered t labels old new' other → other ≡ r) → ExactlyWith fault t labels old new r
-by_text fault e t labels old new r a o = rw e (record { answers = a; only = o })
+pub one_compiled : (t : List ℕ) (labels : Labels) (old new new' : List Part) (a b : Result ℕ QueryFault) → CompiledAs t labels old new a → CompiledAs t labels old new' b → a ≡ b
+one_compiled t labels old new new' a b x y = one_judgement t labels (length old) a b (compiled_judged t labels old new a x) (compiled_judged t labels old new' b y)

@@ -4,3 +4,4 @@ pub mod Noted
 pub mod Deep
 pub mod Whole
 pub mod Exact
+pub mod Compiled

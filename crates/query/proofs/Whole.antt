@@ -1,9 +1,10 @@
 -- Whole: what the draft of a whole text says of its query, and the answer that follows.
-use Rattle.std.proofs.Common.{◌≡◌, ℕ, ◌+◌, ◌-◌, ◌*◌, ◌<◌, ◌≤◌, Bool, cond, List, [], ◌∷◌, ◌++◌, length, take, drop, Some, None, sym, refl, ap, ◌∙◌, subst, ⊎_elim, append-nil, arith}
-use Rattle.std.proofs.lemmas.List.{nil_from_length, drop-drop, drop-set-lt}
+use Rattle.std.proofs.Common.{◌≡◌, ℕ, ◌-◌, ◌*◌, ◌<◌, ◌≤◌, Bool, cond, List, [], ◌∷◌, ◌++◌, length, take, drop, Some, None, Ok, Err, sym, refl, ap, ◌∙◌, subst, ⊎_elim, append-nil, length-append, length-drop, arith}
+use Rattle.std.proofs.lemmas.List.{nil_from_length, length-set, length-take-le, take_all, take-append-le, drop-set-lt}
+use Rattle.std.proofs.lemmas.Slice.{drop-append-drop}
 use Rattle.std.proofs.lemmas.Bool.{cases_lt, ne_eqb}
-use Rattle.model.specs.Limits.{most_length, most_parts, places}
-use Rattle.names.specs.Labels.{Labels, InRange}
+use Rattle.model.specs.Limits.{most_length, most_parts}
+use Rattle.names.specs.Labels.{Labels}
 use Rattle.model.specs.Grammar.{PathTree, path_text, Breaks}
 use Rattle.grammar.specs.Machines.{dead, go, stops}
 use Rattle.grammar.specs.Machine.{axis, done, begin, run}
@@ -14,13 +15,14 @@ use Rattle.table.specs.declared.part.Part.{Part}
 use Rattle.query.specs.declared.QueryFault.{QueryFault}
 use Rattle.query.specs.declared.QueryFault.TheVariants.{BadSize, Broken, TooDeep, TooLong, UnknownName, ShortTable, BadSheet}
 use Rattle.reader.specs.Spells.{Stops}
-use Rattle.reader.specs.Drafts.{started, spine_drafted}
+use Rattle.reader.specs.Drafts.{part, started, spine_drafted}
 use Rattle.table.specs.Reading.{query, query_of, last_place, reading, piece_at, pieces}
+use Rattle.table.specs.declared.part.Tag.TheVariants.{First}
 use Rattle.table.specs.Lawful.{parts_in}
+use Rattle.table.specs.Whole.{whole_reading}
 use Rattle.table.proofs.Pieces.{piece_stays}
 use Rattle.table.proofs.Whole.{named_last, named_last_place}
-use Rattle.table.proofs.Made.{holds}
-use Rattle.query.proofs.Known.{path_known}
+use Rattle.table.proofs.WholeTables.{whole_is_reading}
 use Rattle.query.specs.Answers.{Sized, Sound, Accepted, Refused, deep_place, unknown_left, meaning, length_of}
 use Rattle.query.specs.Limits.{Tree, Limited, Copied}
 use Rattle.reader.proofs.Moves.{Not as IsNot}
@@ -93,7 +95,10 @@ short labels tree d f h = ⊎_elim (λ (k : most_length < length_of labels tree)
 long : (labels : Labels) (tree : PathTree) (d : Draft) → Facts labels tree d → most_length < d.count → most_length < length_of labels tree
 long labels tree d f h = ⊎_elim (λ (k : most_length < length_of labels tree). k) (λ (k : length_of labels tree ≤ most_length). absurd (omega (arith, f.exact k))) (cases_lt most_length (length_of labels tree))
 
-pub refused : (t : List ℕ) (labels : Labels) (n : ℕ) (d : Draft) (f : QueryFault) → Sized t → Tree t labels started d → Limited t d n (Some f) → Refused t labels n f
+pub broken : (t : List ℕ) (labels : Labels) (n : ℕ) (f : QueryFault) → Sized t → (p : ℕ) × (f ≡ Broken p) × Breaks t p → Refused t labels n f
+broken t labels n f s (p, e, b) = rw e (s, b)
+
+pub refused : (t : List ℕ) (labels : Labels) (n : ℕ) (d : Draft) (f : QueryFault) → Sized t → Tree t labels started d → Limited t d n (Err f) → Refused t labels n f
 refused t labels n d (BadSheet f) s k l = absurd l
 refused t labels n d BadSize s k l = absurd l
 refused t labels n d (Broken p) s k l = absurd l
@@ -113,56 +118,66 @@ pub record Room (n : ℕ) (d : Draft) : Type 0 where
   pub drafted : d.used ≤ most_parts
   pub room : d.used ≤ n
 
-pub room : (t : List ℕ) (labels : Labels) (n : ℕ) (d : Draft) → Tree t labels started d → Limited t d n None → Room n d
+pub room : (t : List ℕ) (labels : Labels) (n : ℕ) (d : Draft) → Tree t labels started d → Limited t d n (Ok tt) → Room n d
 room t labels n d k l =
     let f = facts t labels d k in
     let h = short labels k.tree d f l.1 in
     let b = f.built h in
     record { some = omega (arith, b.more); drafted = b.ready.fits; room = omega (arith, b.most, f.exact h, l.3) }
 
--- what the table then reads as
-module _ (labels : Labels) (tree : PathTree) (old new : List Part) (d : Draft) (b : Built started d (query (meaning labels tree)) (4 * length_of labels tree)) (c : Copied d.used d.parts old new) where
-  abbrev k : ℕ
-  k = d.used - 1
+-- what the table then holds
+module _ (labels : Labels) (tree : PathTree) (old new : List Part) (d : Draft) (b : Built started d (query (meaning labels tree)) (4 * length_of labels tree)) (h : d.used ≤ length old) (c : Copied d.used d.parts old new) where
+  abbrev n : ℕ
+  n = d.used
+
+  abbrev front : List Part
+  front = take n d.parts
 
   abbrev mid : List Part
-  mid = c.between
+  mid = front ++ drop n old
 
-  at : (i : ℕ) → i < d.used → piece_at (pieces mid) i ≡ piece_at (pieces (take d.used d.parts)) i
-  at i h = sym (piece_stays mid d.used i h c.long) ∙ ap (λ (ps : List Part). piece_at (pieces ps) i) c.front
+  abbrev k : ℕ
+  k = n - 1
+
+  sized : length front ≡ n
+  sized = length-take-le n d.parts (omega (arith, b.ready.size, b.ready.fits))
+
+  size : length mid ≡ length old
+  size = omega (arith, length-append front (drop n old), sized, length-drop n old)
+
+  at : (i : ℕ) → i < n → piece_at (pieces mid) i ≡ piece_at (pieces front) i
+  at i l = sym (piece_stays mid n i l (omega (arith, size))) ∙ ap (λ (ps : List Part). piece_at (pieces ps) i) (take-append-le n front (drop n old) (omega (arith, sized)) ∙ take_all n front (omega (arith, sized)))
 
   some : 0 < length mid
-  some = omega (arith, b.more, c.long)
+  some = omega (arith, b.more, size)
 
-  pub reads : reading new ≡ meaning labels tree
+  reads : reading new ≡ meaning labels tree
   reads =
-      ap reading c.named ∙ named_last mid k some (at 0 (omega (arith, b.more)) ∙ b.keeps 0 (omega arith)) ∙ ap query_of (at k (omega (arith, b.more)) ∙ b.last)
+      ap reading c ∙ named_last mid k some (at 0 (omega (arith, b.more)) ∙ b.keeps 0 (omega arith)) ∙ ap query_of (at k (omega (arith, b.more)) ∙ b.last)
 
-  pub last_is : parts_in new ≡ d.used
-  last_is = omega (arith, ap last_place c.named, named_last_place mid k some, b.more)
+  pub names_last : parts_in new ≡ n
+  names_last = omega (arith, ap last_place c, named_last_place mid k some, b.more)
 
-  pub past : (l : ℕ) → d.used ≤ l → drop l new ≡ drop l old
-  past l h =
-      let e : d.used + (l - d.used) ≡ l = omega arith in
-      let split : (ps : List Part) → drop l ps ≡ drop (l - d.used) (drop d.used ps) = λ ps. ap (λ (n : ℕ). drop n ps) (sym e) ∙ sym (drop-drop (l - d.used) d.used ps) in
-      split new ∙ ap (drop (l - d.used)) (ap (drop d.used) c.named ∙ drop-set-lt d.used mid 0 _ (omega (arith, b.more)) ∙ c.kept) ∙ sym (split old)
+  pub holds : whole_reading (take n new) ≡ meaning labels tree
+  holds = sym (whole_is_reading new n names_last (omega (arith, ap length c, length-set mid 0 (part First k 0), size))) ∙ reads
 
-pub accepted : (t : List ℕ) (labels : Labels) → ((n : List ℕ) → InRange (labels n)) → (old new : List Part) (d : Draft) → Sized t → Tree t labels started d → Limited t d (length old) None → Copied d.used d.parts old new → Accepted t labels old new d.count
-accepted t labels ranged old new d s k l c =
+  pub kept : drop n new ≡ drop n old
+  kept = ap (drop n) c ∙ drop-set-lt n mid 0 _ (omega (arith, b.more)) ∙ drop-append-drop n old front n (omega arith) sized
+
+pub accepted : (t : List ℕ) (labels : Labels) (old new : List Part) (d : Draft) → Sized t → Tree t labels started d → Limited t d (length old) (Ok tt) → Copied d.used d.parts old new → Accepted t labels old new (record { steps = d.count; places = d.used })
+accepted t labels old new d s k l c =
     let f = facts t labels d k in
     let h = short labels k.tree d f l.1 in
     let b = f.built h in
     let e = f.exact h in
-    let u : unknown_left labels k.tree ≡ None = sym f.unknown ∙ l.2 in
+    let r = room t labels (length old) d k l in
     record {
-      tree = k.tree;
-      sound = sound t labels d s k l.0;
+      fits = record { tree = k.tree; sound = sound t labels d s k l.0; short = h; known = sym f.unknown ∙ l.2; room = omega (arith, e, l.3) };
       length_is = e;
-      short = l.1;
-      known = u;
-      room = l.3;
-      holds = holds new (meaning labels k.tree) (reads labels k.tree old new d b c) h (path_known labels ranged k.tree [] u) (omega (arith, last_is labels k.tree old new d b c, b.most));
-      kept = past labels k.tree old new d b c (places d.count) (omega (arith, b.most));
+      few = omega (arith, b.most, e);
+      named = names_last labels k.tree old new d b r.room c;
+      holds = holds labels k.tree old new d b r.room c;
+      kept = kept labels k.tree old new d b r.room c;
     }
 
 pub from_start : (t : List ℕ) (labels : Labels) (d e : Draft) → d ≡ started → Tree t labels d e → Tree t labels started e

@@ -1,14 +1,15 @@
 -- The answer to a query text: when it is accepted and what the table then holds, and otherwise the first fault that applies.
-use Rattle.std.specs.Prelude.{◌≡◌, ℕ, ◌+◌, ◌-◌, ◌<◌, ◌≤◌, Bool, cond, ◌||◌, List, [], ◌∷◌, ◌++◌, length, drop, is_some, Some, None, Ok, Err, codes, Option, Result, ◌==◌, nat_le}
+use Rattle.std.specs.Prelude.{◌≡◌, ℕ, ◌+◌, ◌-◌, ◌<◌, ◌≤◌, Bool, cond, ◌||◌, List, [], ◌∷◌, ◌++◌, length, take, drop, is_some, Some, None, Ok, Err, codes, Option, Result, ◌==◌, nat_le}
 use Rattle.model.specs.Limits.{most_length, most_open, most_text, places}
 use Rattle.model.specs.Query.{Path, path_length}
 use Rattle.model.specs.Grammar.{TestTree, star, name, PathTree, StepTree, OrChain, AndChain, Atom, one, slash, bare, held, ands, or, atom, and, along, parens, negate, path_text, or_text, and_text, atom_text, Reads, Query, Breaks, path_meaning}
-use Rattle.names.specs.declared.NamesFault.{NamesFault}
 use Rattle.names.specs.Labels.{Labels}
 use Rattle.query.specs.declared.QueryFault.{QueryFault}
 use Rattle.query.specs.declared.QueryFault.TheVariants.{BadSize, Broken, TooDeep, TooLong, UnknownName, ShortTable, BadSheet}
+use Rattle.query.specs.declared.QuerySize.{QuerySize}
 use Rattle.table.specs.declared.part.Part.{Part}
-use Rattle.table.specs.Lawful.{checked_reading}
+use Rattle.table.specs.Lawful.{parts_in}
+use Rattle.table.specs.Whole.{whole_reading}
 
 pub record Sized (t : List ℕ) : Type 0 where
   pub some : 1 ≤ length t
@@ -82,16 +83,22 @@ pub record Sound (t : List ℕ) (tree : PathTree) : Type 0 where
   pub reads : Reads t tree
   pub shallow : deep_place t ≡ None
 
--- The text's one tree has this length and is within all limits, and the table reads as its query; past the places of that length it is as it was.
-pub record Accepted (t : List ℕ) (labels : Labels) (old new : List Part) (l : ℕ) : Type 0 where
+-- the text is a query and within all limits, and so many places are room for it
+pub record Fits (t : List ℕ) (labels : Labels) (n : ℕ) : Type 0 where
   pub tree : PathTree
   pub sound : Sound t tree
-  pub length_is : l ≡ length_of labels tree
-  pub short : l ≤ most_length
+  pub short : length_of labels tree ≤ most_length
   pub known : unknown_left labels tree ≡ None
-  pub room : places l ≤ length old
-  pub holds : checked_reading new ≡ meaning labels tree
-  pub kept : drop (places l) new ≡ drop (places l) old
+  pub room : places (length_of labels tree) ≤ n
+
+-- The text fits, and its size is told: its length, and in how many first places of the table its query stands. The first of them names the last, and past them the table is as it was.
+pub record Accepted (t : List ℕ) (labels : Labels) (old new : List Part) (size : QuerySize) : Type 0 where
+  pub fits : Fits t labels (length old)
+  pub length_is : size.steps ≡ length_of labels fits.tree
+  pub few : size.places ≤ places size.steps
+  pub named : parts_in new ≡ size.places
+  pub holds : whole_reading (take size.places new) ≡ meaning labels fits.tree
+  pub kept : drop size.places new ≡ drop size.places old
 
 -- The faults in their order; each presupposes that none before it applies. A sheet is judged before any text.
 abbrev pub Refused : List ℕ → Labels → ℕ → QueryFault → Type 0
@@ -103,17 +110,12 @@ Refused t labels n TooLong = (tree : PathTree) × Sound t tree × (most_length <
 Refused t labels n (UnknownName p) = (tree : PathTree) × Sound t tree × (length_of labels tree ≤ most_length) × ((left : ℕ) × (unknown_left labels tree ≡ Some left) × (p ≡ length t - left))
 Refused t labels n ShortTable = (tree : PathTree) × Sound t tree × (length_of labels tree ≤ most_length) × (unknown_left labels tree ≡ None) × (n < places (length_of labels tree))
 
--- The answer to a text: its length, or the first fault that applies, and then the table is as it was.
-abbrev pub Answered : List ℕ → Labels → List Part → List Part → Result ℕ QueryFault → Type 0
-Answered t labels old new (Ok l) = Accepted t labels old new l
+-- The answer to a text: its size, or the first fault that applies, and then the table is as it was.
+abbrev pub Answered : List ℕ → Labels → List Part → List Part → Result QuerySize QueryFault → Type 0
+Answered t labels old new (Ok size) = Accepted t labels old new size
 Answered t labels old new (Err f) = (new ≡ old) × Refused t labels (length old) f
 
--- with the names of a sheet, which may be refused itself
-abbrev pub AnsweredWith : Option NamesFault → List ℕ → Labels → List Part → List Part → Result ℕ QueryFault → Type 0
-AnsweredWith None t labels old new r = Answered t labels old new r
-AnsweredWith (Some f) t labels old new r = (new ≡ old) × (r ≡ Err (BadSheet f))
-
--- Whatever tree the text has, an accepted table reads as what that tree means, and the answer is its length.
-abbrev pub ReadsAsWritten : List ℕ → Labels → List Part → Result ℕ QueryFault → Type 0
-ReadsAsWritten t labels new (Ok l) = (tree : PathTree) → Reads t tree → (checked_reading new ≡ meaning labels tree) × (l ≡ path_length (checked_reading new))
-ReadsAsWritten t labels new (Err f) = Unit {0}
+-- An answer without the places: they follow from the table.
+abbrev pub steps_of : Result QuerySize QueryFault → Result ℕ QueryFault
+steps_of (Ok size) = Ok size.steps
+steps_of (Err f) = Err f

@@ -1,3 +1,5 @@
 pub mod Answers
+pub mod Compiled
 pub mod Limits
 pub mod Refusals
+pub mod Theorems

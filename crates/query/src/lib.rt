@@ -6,18 +6,29 @@ ghost use Rattle.model.specs.Limits.{most_parts};
 ghost use Rattle.names.specs.Held.{fault_of, labels_of};
 ghost use Rattle.table.specs.declared.part.Part.{Part};
 ghost use Rattle.query.specs.declared.QueryFault.{QueryFault};
-ghost use Rattle.query.specs.Answers.{Answered, AnsweredWith, ReadsAsWritten};
+ghost use Rattle.query.specs.declared.QueryFault.TheVariants.{BadSheet as BadSheetFault};
+ghost use Rattle.query.specs.declared.QuerySize.{QuerySize};
+ghost use Rattle.query.specs.Answers.{Answered, steps_of};
+ghost use Rattle.query.specs.Compiled.{CompiledAs, CompiledWith, ReadsAsWritten};
 ghost use Rattle.query.specs.Limits.{Drafted, Limited, Copied};
 ghost use Rattle.query.specs.Refusals.{query_refusal, query_sentence};
+ghost use Rattle.query.specs.Theorems.{AcceptedAsWritten, FittingIsAccepted, OneFault, TablesPartByPart};
 
 use model::fault::{Described, Fault, Layer, Refusal};
 use model::limits::{MOST_LENGTH, MOST_TEXT};
 use names::NamesFault;
 use names::lookup::{Lookup, Naming};
 use names::sheet::Sheet;
-use table::part::{Part, Tag};
 use reader::descent::spine;
 use reader::draft::{Draft, start};
+use table::part::{Part, Tag};
+
+// The length of an accepted query, and the places that it takes in the table.
+#[derive(Clone, Copy, PartialEq, Eq, Debug)]
+pub struct QuerySize {
+    pub steps: usize,
+    pub places: usize,
+}
 
 // Why a query text is refused.
 #[derive(Clone, Copy, PartialEq, Eq, Debug)]
@@ -75,48 +86,45 @@ impl Described for QueryFault {
     }
 }
 
-// Reads the whole text into the draft, or answers where the grammar is broken.
-fn parse<N: Naming>(text: &[u8], names: &N, draft: &mut Draft) -> Option<usize>
-    ensures { Drafted text.now (N.labels names.now) draft.old draft.new result }
-{
-    match text {
-        [b'/', more @ ..] => match spine(more, names, draft) {
-            Ok(rest) => {
-                if rest.len() == 0 {
-                    None
-                } else {
-                    Some(text.len() - rest.len())
-                }
-            }
-            Err(e) => Some(text.len() - e.left),
-        },
-        _ => Some(0),
+impl From<NamesFault> for QueryFault {
+    ghost from_gives = { λ f e. e ≡ BadSheetFault f };
+
+    fn from(fault: NamesFault) -> QueryFault {
+        QueryFault::BadSheet(fault)
     }
 }
 
-// The first limit that a text in the grammar passes, with so many places in the table.
-fn limit(text: &[u8], draft: &Draft, room: usize) -> Option<QueryFault>
+// Reads the whole text into the draft, or answers where the grammar is broken.
+fn parse<N: Naming>(text: &[u8], names: &N, draft: &mut Draft) -> Result<(), QueryFault>
+    ensures { Drafted text.now (N.labels names.now) draft.old draft.new result }
+{
+    let [b'/', more @ ..] = text else {
+        return Err(QueryFault::Broken(0));
+    };
+    match spine(more, names, draft) {
+        Ok([]) => Ok(()),
+        Ok(rest) => Err(QueryFault::Broken(text.len() - rest.len())),
+        Err(stuck) => Err(QueryFault::Broken(text.len() - stuck.left)),
+    }
+}
+
+// Whether a text in the grammar is within the limits, with so many places in the table; else the first that it passes.
+fn limit(text: &[u8], draft: &Draft, room: usize) -> Result<(), QueryFault>
     ensures { Limited text.now draft.now room result }
 {
-    match draft.deep {
-        Some(left) => Some(QueryFault::TooDeep(text.len().saturating_sub(left).saturating_sub(1))),
-        None => {
-            if draft.count > MOST_LENGTH {
-                Some(QueryFault::TooLong)
-            } else {
-                match draft.unknown {
-                    Some(left) => Some(QueryFault::UnknownName(text.len().saturating_sub(left))),
-                    None => {
-                        if room < 6 * draft.count + 1 {
-                            Some(QueryFault::ShortTable)
-                        } else {
-                            None
-                        }
-                    }
-                }
-            }
-        }
+    if let Some(left) = draft.deep {
+        return Err(QueryFault::TooDeep(text.len().saturating_sub(left).saturating_sub(1)));
     }
+    if draft.count > MOST_LENGTH {
+        return Err(QueryFault::TooLong);
+    }
+    if let Some(left) = draft.unknown {
+        return Err(QueryFault::UnknownName(text.len().saturating_sub(left)));
+    }
+    if room < 6 * draft.count + 1 {
+        return Err(QueryFault::ShortTable);
+    }
+    Ok(())
 }
 
 // Writes the draft's parts into the first places of the table; the first one names the last.
@@ -127,14 +135,30 @@ fn copy(draft: &Draft, table: &mut [Part])
     ensures { Copied draft.now.used draft.now.parts table.old table.new }
 {
     let used = draft.used;
-    for i in 0..used {
-        table[i] = draft.parts[i];
-    }
+    table[..used].copy_from_slice(&draft.parts[..used]);
     table[0] = Part {
         tag: Tag::First,
-        first: draft.used - 1,
+        first: used - 1,
         second: 0,
     };
+}
+
+// Reads a query text with the names of a source into the table and answers its size, or refuses it and leaves the table as it was. No other answer meets the definition, but for the places.
+pub fn read<N: Naming>(text: &[u8], names: &N, table: &mut [Part]) -> Result<QuerySize, QueryFault>
+    ensures answers { Answered text.now (N.labels names.now) table.old table.new result }
+    ensures only { (other : Result QuerySize QueryFault) (new : List Part) → Answered text.now (N.labels names.now) table.old new other → steps_of other ≡ steps_of result }
+{
+    if text.is_empty() || text.len() > MOST_TEXT {
+        return Err(QueryFault::BadSize);
+    }
+    let mut draft = start();
+    parse(text, names, &mut draft)?;
+    limit(text, &draft, table.len())?;
+    copy(&draft, table);
+    Ok(QuerySize {
+        steps: draft.count,
+        places: draft.used,
+    })
 }
 
 // Compiles a query text with the names of a look-up into the table and answers its length, or refuses it and leaves the table as it was. No other answer meets the definition.
@@ -143,34 +167,50 @@ pub fn compile_with<N: Lookup>(
     names: &N,
     table: &mut [Part],
 ) -> Result<usize, QueryFault>
-    ensures answers { Answered text.now (N.labels names.now) table.old table.new result }
-    ensures only { (other : Result ℕ QueryFault) (new : List Part) → Answered text.now (N.labels names.now) table.old new other → other ≡ result }
+    ensures answers { CompiledAs text.now (N.labels names.now) table.old table.new result }
+    ensures only { (other : Result ℕ QueryFault) (new : List Part) → CompiledAs text.now (N.labels names.now) table.old new other → other ≡ result }
     ensures written { ReadsAsWritten text.now (N.labels names.now) table.new result }
 {
-    if text.len() == 0 || text.len() > MOST_TEXT {
-        return Err(QueryFault::BadSize);
-    }
-    let mut draft = start();
-    match parse(text, names, &mut draft) {
-        Some(p) => Err(QueryFault::Broken(p)),
-        None => match limit(text, &draft, table.len()) {
-            Some(fault) => Err(fault),
-            None => {
-                copy(&draft, table);
-                Ok(draft.count)
-            }
-        },
-    }
+    let size = read(text, names, table)?;
+    Ok(size.steps)
 }
 
 // Compiles a query text with the names of a sheet. A sheet that is refused is the first fault.
 pub fn compile(text: &[u8], sheet: &Sheet, table: &mut [Part]) -> Result<usize, QueryFault>
-    ensures answers { AnsweredWith (fault_of sheet.now) text.now (labels_of sheet.now) table.old table.new result }
-    ensures only { (other : Result ℕ QueryFault) (new : List Part) → AnsweredWith (fault_of sheet.now) text.now (labels_of sheet.now) table.old new other → other ≡ result }
+    ensures answers { CompiledWith (fault_of sheet.now) text.now (labels_of sheet.now) table.old table.new result }
+    ensures only { (other : Result ℕ QueryFault) (new : List Part) → CompiledWith (fault_of sheet.now) text.now (labels_of sheet.now) table.old new other → other ≡ result }
     ensures written { ReadsAsWritten text.now (labels_of sheet.now) table.new result }
 {
-    match sheet.fault() {
-        Some(fault) => Err(QueryFault::BadSheet(fault)),
-        None => compile_with(text, sheet, table),
+    if let Some(fault) = sheet.fault() {
+        return Err(fault.into());
     }
+    compile_with(text, sheet, table)
+}
+
+// A text that is a query and within all limits is refused by nothing: it is accepted.
+pub fn fitting_is_accepted() -> u8
+    ensures { FittingIsAccepted }
+{
+    0
+}
+
+// A theorem, with nothing to compute: whatever parts are all of a table's, they give, taken one by one, the formula of the one query that they read as.
+pub fn table_reads_as_formula() -> u8
+    ensures { TablesPartByPart }
+{
+    0
+}
+
+// At most one fault applies to a text.
+pub fn one_fault() -> u8
+    ensures { OneFault }
+{
+    0
+}
+
+// A theorem: the table of an accepted text reads as what the text's one tree means.
+pub fn table_reads_as_text() -> u8
+    ensures { AcceptedAsWritten }
+{
+    0
 }

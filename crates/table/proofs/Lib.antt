@@ -5,3 +5,4 @@ pub mod Formulas
 pub mod Lengths
 pub mod Lawful
 pub mod Made
+pub mod WholeTables
