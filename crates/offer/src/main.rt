@@ -2,32 +2,17 @@
 // is read as, part by part, or what is wrong with it and where.
 #![tactic(auto)]
 
-use model::axis::Axis;
-use model::fault::Fault;
+use model::fault::{Fault, Refusal};
+use model::limits::MOST_PARTS;
 use names::NamesFault;
+use names::lookup::{Naming, Unchecked};
 use query::{QueryFault, read};
-use reader::table::{Part, Tag};
-use report::layer_name;
-use std::{fs, io};
-
-fn axis_word(axis: Axis) -> &'static str {
-    match axis {
-        Axis::Itself => "self",
-        Axis::Child => "child",
-        Axis::Parent => "parent",
-        Axis::Descendant => "descendant",
-        Axis::Ancestor => "ancestor",
-        Axis::DescendantOrSelf => "descendant-or-self",
-        Axis::AncestorOrSelf => "ancestor-or-self",
-        Axis::FollowingSibling => "following-sibling",
-        Axis::PrecedingSibling => "preceding-sibling",
-        Axis::Following => "following",
-        Axis::Preceding => "preceding",
-    }
-}
+use std::{fmt, fs, io};
+use table::part::{Part, Tag};
 
 fn query_sentence(fault: QueryFault) -> &'static str {
     match fault {
+        QueryFault::BadSheet(fault) => names_sentence(fault),
         QueryFault::BadSize => "The text is empty or has more than 512 bytes.",
         QueryFault::Broken(_) => "From here on this is no query.",
         QueryFault::TooDeep(_) => "This is the ninth bracket that is open.",
@@ -45,61 +30,59 @@ fn names_sentence(fault: NamesFault) -> &'static str {
     }
 }
 
-fn show_part(rt: &impl Print, place: usize, part: Part) -> io::Result<()> {
-    let first = part.first;
-    let second = part.second;
-    match part.tag {
-        Tag::First => println!(rt; "  {place}: the first element"),
-        Tag::Any => println!(rt; "  {place}: any element"),
-        Tag::Named => println!(rt; "  {place}: label {first}"),
-        Tag::Filtered => println!(rt; "  {place}: {first} with filter {second}"),
-        Tag::Then => println!(rt; "  {place}: {first}, then {second}"),
-        Tag::Along(a) => {
-            let word = axis_word(a);
-            println!(rt; "  {place}: {word} to {first}")
-        }
-        Tag::And => println!(rt; "  {place}: {first} and {second}"),
-        Tag::Or => println!(rt; "  {place}: {first} or {second}"),
-        Tag::Not => println!(rt; "  {place}: not {first}"),
-        Tag::Step(a) => {
-            let word = axis_word(a);
-            println!(rt; "  {place}: from {second}, {word} to {first}")
+fn print_fault(rt: &impl Print, refusal: Refusal, sentence: &str) -> io::Result<()> {
+    let Refusal {
+        number,
+        layer,
+        place,
+    } = refusal;
+    println!(rt; "refused by {number}, {layer}, at {place}: {sentence}")
+}
+
+// A part in words, which name other parts by their places.
+#[derive(Drop)]
+struct InWords(Part);
+
+impl fmt::Display for InWords {
+    fn fmt<W: fmt::Write>(&self, f: &mut fmt::Formatter<W>) -> fmt::Result {
+        let Part { tag, first, second } = self.0;
+        match tag {
+            Tag::First => write!(f, "the first element"),
+            Tag::Any => write!(f, "any element"),
+            Tag::Named => write!(f, "label {first}"),
+            Tag::Filtered => write!(f, "{first} with filter {second}"),
+            Tag::Then => write!(f, "{first}, then {second}"),
+            Tag::Along(axis) => write!(f, "{axis} to {first}"),
+            Tag::And => write!(f, "{first} and {second}"),
+            Tag::Or => write!(f, "{first} or {second}"),
+            Tag::Not => write!(f, "not {first}"),
+            Tag::Step(axis) => write!(f, "from {second}, {axis} to {first}"),
         }
     }
 }
 
 // A caret under the byte at the place.
-fn show_caret(rt: &impl Print, place: usize) -> io::Result<()> {
+fn print_caret(rt: &impl Print, place: usize) -> io::Result<()> {
     for _ in 0..place {
         print!(rt; " ")?;
     }
     println!(rt; "^")
 }
 
-fn show(rt: &impl Print, text: &[u8], sheet: &[u8]) -> io::Result<()> {
-    let mut table = [Part {
-        tag: Tag::Any,
-        first: 0,
-        second: 0,
-    }; 97];
-    match read(text, sheet, &mut table) {
+fn show(rt: &impl Print, text: &[u8], names: &impl Naming) -> io::Result<()> {
+    let mut table = [Part::UNUSED; MOST_PARTS];
+    match read(text, names, &mut table) {
         Ok(size) => {
-            let steps = size.steps;
-            let places = size.places;
-            println!(rt; "length {steps}, {places} places")?;
-            for (i, part) in table.iter().take(places).enumerate() {
-                show_part(rt, i, *part)?;
+            println!(rt; "length {}, {} places", size.steps, size.places)?;
+            for (place, part) in table.iter().take(size.places).enumerate() {
+                println!(rt; "  {place}: {}", InWords(*part))?;
             }
             Ok(())
         }
         Err(fault) => {
             let refusal = fault.refusal();
-            let number = refusal.number;
-            let layer = layer_name(refusal.layer);
-            let place = refusal.place;
-            let sentence = query_sentence(fault);
-            show_caret(rt, place)?;
-            println!(rt; "refused by {number}, {layer}, at {place}: {sentence}")
+            print_caret(rt, refusal.place)?;
+            print_fault(rt, refusal, query_sentence(fault))
         }
     }
 }
@@ -108,20 +91,12 @@ fn main(rt: HostRuntime) -> io::Result<()> {
     let sheet = fs::read(&rt, "names.txt")?;
     match names::check(&sheet) {
         Ok(count) => println!(rt; "{count} names")?,
-        Err(fault) => {
-            let refusal = fault.refusal();
-            let number = refusal.number;
-            let layer = layer_name(refusal.layer);
-            let place = refusal.place;
-            let sentence = names_sentence(fault);
-            println!(rt; "refused by {number}, {layer}, at {place}: {sentence}")?;
-            return Ok(());
-        }
+        Err(fault) => return print_fault(&rt, fault.refusal(), names_sentence(fault)),
     }
     for line in rt.lines(rt.alloc()) {
         let line = line?;
         println!(rt; "{line}")?;
-        show(&rt, line.as_bytes(), &sheet)?;
+        show(&rt, line.as_bytes(), &Unchecked(&sheet))?;
     }
     Ok(())
 }
