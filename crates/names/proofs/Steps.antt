@@ -1,19 +1,9 @@
--- Steps: the line ends and the rule of the bytes from a place on, by the byte there.
+-- Steps: the rule of the bytes from a place on, by the byte there.
 use Rattle.std.proofs.Common.{◌≡◌, ℕ, suc, ◌+◌, ◌-◌, ◌<◌, ◌≤◌, Bool, cond, List, length, get_or, drop, sym, ap, ◌∙◌, arith}
 use Rattle.std.proofs.lemmas.List.{at_drop_more, at_drop_all, length-drop}
 use Rattle.std.proofs.lemmas.Bool.{eq-eqb, ne_eqb}
-use Rattle.names.specs.Sheet.{line_ends}
 use Rattle.grammar.specs.Machines.{Next, dead, go, Out, taken, stops}
 use Rattle.names.specs.Rule.{fresh, room_after, run}
-
-pub ends_more : (t : List ℕ) (i : ℕ) → i < length t → get_or t i 0 ≡ 10 → line_ends (drop i t) ≡ line_ends (drop (i + 1) t) + 1
-ends_more t i h e = at_drop_more line_ends t i 0 h ∙ ap (λ (v : Bool). cond v (line_ends (drop (i + 1) t) + 1) (line_ends (drop (i + 1) t))) (eq-eqb (get_or t i 0) 10 e)
-
-pub ends_same : (t : List ℕ) (i : ℕ) → i < length t → (get_or t i 0 ≡ 10 → ⊥) → line_ends (drop i t) ≡ line_ends (drop (i + 1) t)
-ends_same t i h n = at_drop_more line_ends t i 0 h ∙ ap (λ (v : Bool). cond v (line_ends (drop (i + 1) t) + 1) (line_ends (drop (i + 1) t))) (ne_eqb (get_or t i 0) 10 n)
-
-pub no_ends : (t : List ℕ) (i : ℕ) → length t ≤ i → line_ends (drop i t) ≡ 0
-no_ends t i h = at_drop_all line_ends t i h
 
 -- what follows a byte that leaves this room
 abbrev pub go_on : List ℕ → Next ℕ → Out

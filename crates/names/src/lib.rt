@@ -69,14 +69,14 @@ impl Described for NamesFault {
 pub fn is_letter(b: u8) -> bool
     ensures { result ≡ is_letter b }
 {
-    (b >= b'A' && b <= b'Z') || (b >= b'a' && b <= b'z')
+    matches!(b, b'A'..=b'Z' | b'a'..=b'z')
 }
 
 // Whether the byte may stand in a name after its first.
 pub fn is_name_byte(b: u8) -> bool
     ensures { result ≡ is_name_byte b }
 {
-    is_letter(b) || (b >= b'0' && b <= b'9') || b == b'-' || b == b'_' || b == b'.'
+    is_letter(b) || matches!(b, b'0'..=b'9' | b'-' | b'_' | b'.')
 }
 
 // The label of the name in the sheet, or none.
@@ -101,13 +101,7 @@ pub fn label(sheet: &[u8], name: &[u8]) -> Option<usize>
 fn line_ends(sheet: &[u8]) -> usize
     ensures { result ≡ line_ends sheet.now }
 {
-    let mut n = 0;
-    for b in sheet {
-        if *b == LINE_END {
-            n += 1;
-        }
-    }
-    n
+    sheet.iter().filter(|b| **b == LINE_END).count()
 }
 
 // What room the byte leaves in its name, or none where it is refused.
