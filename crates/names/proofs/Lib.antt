@@ -1,4 +1,4 @@
-pub mod Rows
+pub mod Cuts
 pub mod Steps
 pub mod Places
 pub mod Sheets

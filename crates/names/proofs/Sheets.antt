@@ -1,13 +1,13 @@
 -- Sheets: a run's names are its rows, and it has as many line ends.
-use Rattle.std.proofs.Common.{◌≡◌, ℕ, zero, suc, ◌+◌, ◌-◌, ◌≤◌, Bool, true, false, cond, ◌&&◌, eqb, List, [], ◌∷◌, ◌++◌, length, Some, None, Ok, Err, Option, Result, sym, refl, ap, ◌∙◌, append_assoc, append-nil, arith}
+use Rattle.std.proofs.Common.{◌≡◌, ℕ, zero, suc, ◌+◌, ◌-◌, Bool, true, false, cond, ◌&&◌, eqb, List, [], ◌∷◌, ◌++◌, length, Some, None, Ok, Err, Option, Result, sym, refl, ap, subst, ◌∙◌, append_assoc, append-nil, arith}
 use Rattle.std.proofs.lemmas.Bool.{ne_eqb, and_parts, false≢true}
 use Rattle.model.specs.Names.{is_letter, is_name_byte, are_name_bytes}
-use Rattle.grammar.specs.Machines.{stops, taken}
+use Rattle.grammar.specs.Machines.{Out, stops, taken}
 use Rattle.grammar.proofs.Stopping.{one_place}
 use Rattle.names.specs.declared.NamesFault.{NamesFault}
 use Rattle.names.specs.declared.NamesFault.TheVariants.{TooMuch, BadName, Repeated}
-use Rattle.names.specs.Sheet.{sheet_text, are_names, Run, Breaks, rows_after, rows, line_ends, first_repeat, Small, Accepted, RepeatsAt, Checked}
-use Rattle.names.specs.Rule.{fresh, run}
+use Rattle.names.specs.Sheet.{sheet_text, are_names, Run, Breaks, rows_after, rows, line_ends, first_repeat, repeated, Small, Accepted, RepeatsAt, Checked}
+use Rattle.names.specs.Rule.{fresh, run, stopped}
 use Rattle.names.proofs.Places.{is_run, breaks}
 
 no_end : (b : ℕ) → is_name_byte b ≡ true → eqb b 10 ≡ false
@@ -58,16 +58,42 @@ ends_of_names ((b ∷ u) ∷ ns) e =
 rows_of : (t : List ℕ) (r : Run t) → rows t ≡ r.names
 rows_of t r = ap rows r.written ∙ rows_of_names r.names r.lawful
 
+-- What the two steps of a check say of a small sheet.
+ok_err : {A : Type 0} (u : A) (f : NamesFault) → Ok u ≡ Err f → ⊥
+ok_err u f e = let z : ◌≡◌ {A = ℕ} 0 1 = cc in omega arith
+
+pub is_taken : (t : List ℕ) (u : Unit {0}) → Ok u ≡ stopped (length t) (run fresh t) → run fresh t ≡ taken
+is_taken t u e = by (run fresh t) e
+  where
+    by : (o : Out) → Ok u ≡ stopped (length t) o → o ≡ taken
+    by taken e = refl
+    by (stops left) e = absurd (ok_err u (BadName (length t - left)) e)
+
+pub is_apart : (o : Option ℕ) (u : Unit {0}) → Ok u ≡ repeated o → None ≡ o
+is_apart None u e = refl
+is_apart (Some p) u e = absurd (ok_err u (Repeated p) e)
+
+pub broken_at : (t : List ℕ) (f : NamesFault) → Small t → Err f ≡ stopped (length t) (run fresh t) → Checked t (Err f)
+broken_at t f s e = by (run fresh t) refl e
+  where
+    by : (o : Out) → run fresh t ≡ o → Err f ≡ stopped (length t) o → Checked t (Err f)
+    by taken q e = absurd (ok_err tt f (sym e))
+    by (stops left) q e = let k : BadName (length t - left) ≡ f = cc in subst (λ (g : NamesFault). Checked t (Err g)) k (s, breaks t left q)
+
+pub repeats : (t : List ℕ) (f : NamesFault) → Small t → run fresh t ≡ taken → Err f ≡ repeated (first_repeat (rows t)) → Checked t (Err f)
+repeats t f s h e = by (first_repeat (rows t)) refl e
+  where
+    by : (o : Option ℕ) → first_repeat (rows t) ≡ o → Err f ≡ repeated o → Checked t (Err f)
+    by None q e = absurd (ok_err tt f (sym e))
+    by (Some p) q e =
+        let k : Repeated p ≡ f = cc in
+        let r = is_run t h in
+        subst (λ (g : NamesFault). Checked t (Err g)) k (record { small = s; run = r; repeat = sym (ap first_repeat (rows_of t r)) ∙ q })
+
 pub accepted : (t : List ℕ) (n : ℕ) → Small t → run fresh t ≡ taken → None ≡ first_repeat (rows t) → n ≡ line_ends t → Accepted t n
 accepted t n s e d h =
     let r = is_run t e in
     record { small = s; run = r; labelled = rows_of t r; apart = sym (d ∙ ap first_repeat (rows_of t r)); number = h ∙ ap line_ends r.written ∙ ends_of_names r.names r.lawful }
-
-pub repeats : (t : List ℕ) (p : ℕ) → Small t → run fresh t ≡ taken → Some p ≡ first_repeat (rows t) → RepeatsAt t p
-repeats t p s e d = let r = is_run t e in record { small = s; run = r; repeat = sym (d ∙ ap first_repeat (rows_of t r)) }
-
-pub broken_at : (t : List ℕ) (p : ℕ) → p ≤ length t → run fresh t ≡ stops (length t - p) → Breaks t p
-broken_at t p h e = let k : length t - (length t - p) ≡ p = omega arith in rw k at (breaks t (length t - p) e)
 
 -- One answer: no two meet the definition for the same bytes.
 run_or_break : (t : List ℕ) (p : ℕ) → Run t → Breaks t p → ⊥
