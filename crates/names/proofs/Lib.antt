@@ -1,4 +1,3 @@
 pub mod Cuts
-pub mod Steps
 pub mod Places
 pub mod Sheets

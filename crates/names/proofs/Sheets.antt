@@ -1,5 +1,6 @@
 -- Sheets: a run's names are its rows, and it has as many line ends.
 use Rattle.std.proofs.Common.{◌≡◌, ℕ, zero, suc, ◌+◌, ◌-◌, Bool, true, false, cond, ◌&&◌, eqb, List, [], ◌∷◌, ◌++◌, length, Some, None, Ok, Err, Option, Result, sym, refl, ap, subst, ◌∙◌, append_assoc, append-nil, arith}
+use Rattle.std.specs.Result.{result_err}
 use Rattle.std.proofs.lemmas.Bool.{ne_eqb, and_parts, false≢true}
 use Rattle.model.specs.Names.{is_letter, is_name_byte, are_name_bytes}
 use Rattle.grammar.specs.Machines.{Out, stops, taken}
@@ -8,6 +9,7 @@ use Rattle.names.specs.declared.NamesFault.{NamesFault}
 use Rattle.names.specs.declared.NamesFault.TheVariants.{TooMuch, BadName, Repeated}
 use Rattle.names.specs.Sheet.{sheet_text, are_names, Run, Breaks, rows_after, rows, line_ends, first_repeat, repeated, Small, Accepted, RepeatsAt, Checked}
 use Rattle.names.specs.Rule.{fresh, run, stopped}
+use Rattle.names.specs.Held.{judged}
 use Rattle.names.proofs.Places.{is_run, breaks}
 
 no_end : (b : ℕ) → is_name_byte b ≡ true → eqb b 10 ≡ false
@@ -132,5 +134,10 @@ one_answer t (Err (Repeated p)) (Err (Repeated q)) x y = ap (λ (k : ℕ). Err (
 pub only : (t : List ℕ) (r : Result ℕ NamesFault) → Checked t r → (other : Result ℕ NamesFault) → Checked t other → other ≡ r
 only t r a other x = one_answer t other r x a
 
-pub number_is : (t : List ℕ) (n : ℕ) → Accepted t n → n ≡ line_ends t
+number_is : (t : List ℕ) (n : ℕ) → Accepted t n → n ≡ line_ends t
 number_is t n a = a.number ∙ sym (ap line_ends a.run.written ∙ ends_of_names a.run.names a.run.lawful)
+
+-- what a sheet's fault and line ends say of its check
+pub judged_is : (t : List ℕ) (r : Result ℕ NamesFault) → Checked t r → judged (result_err r) (line_ends t) ≡ r
+judged_is t (Ok n) a = ap Ok (sym (number_is t n a))
+judged_is t (Err f) a = refl

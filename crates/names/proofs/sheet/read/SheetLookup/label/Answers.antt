@@ -5,10 +5,10 @@ use Rattle.names.specs.Labels.{InRange, names_among}
 use Rattle.names.specs.Ranged.{among}
 use Rattle.names.proofs.sheet.read.SheetLookup.label.Goals as goal
 
-pub overflow_cast-result : goal.overflow_cast-result
-overflow_cast-result c =
+pub map-requires : goal.map-requires
+map-requires c = λ x e _ _.
     let s = c.args.self.now in
     let t = s.bytes.now in
     let few = subst (λ (f : Option NamesFault). names_among f t ≤ most_names) c.in-None.is s.few in
-    let r = subst InRange (sym c.label.ensures ∙ c.in-Some-label.is) (among None t c.args.name.now few) in
+    let r = subst InRange (sym c.label.ensures ∙ e) (among None t c.args.name.now few) in
     omega (arith, r.1)
