@@ -1,5 +1,5 @@
 -- Places: the machine takes exactly the runs of names, so where it stops the bytes break them.
-use Rattle.std.proofs.Common.{◌≡◌, ℕ, zero, suc, ◌-◌, ◌<◌, Bool, true, false, cond, ◌&&◌, ltb, List, [], ◌∷◌, ◌++◌, length, sym, refl, ap, ◌∙◌, ⊎_elim, arith}
+use Rattle.std.proofs.Common.{◌≡◌, ◌≢◌, ℕ, zero, suc, ◌-◌, ◌<◌, Bool, true, false, cond, ◌&&◌, ltb, List, [], ◌∷◌, ◌++◌, length, sym, refl, ap, ◌∙◌, ⊎_elim, arith}
 use Rattle.std.proofs.lemmas.Bool.{eq-eqb, ne_eqb, lt-ltb, cases_eq, cases_Bool, and_parts, and_from, false≢true}
 use Rattle.model.specs.Names.{is_letter, is_name_byte, are_name_bytes}
 use Rattle.grammar.specs.Machines.{Next, dead, go, Out, taken, stops}
@@ -32,7 +32,7 @@ inside_more k b n m =
     let d : suc k - 1 ≡ k = omega arith in
     inside (suc k) b n m ∙ rw (l, d) refl
 
-no_end : (b : ℕ) → is_name_byte b ≡ true → b ≡ 10 → ⊥
+pub no_end : (b : ℕ) → is_name_byte b ≡ true → b ≢ 10
 no_end b e q = false≢true (sym (ap is_name_byte q) ∙ e)
 
 on_name_lem : (k b : ℕ) → (suc k ≡ 24 → ⊥) → is_name_byte b ≡ true → room_after (suc k) b ≡ go k
