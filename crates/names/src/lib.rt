@@ -99,14 +99,11 @@ fn line_ends(sheet: &[u8]) -> usize
 fn next(room: usize, b: u8) -> Option<usize>
     ensures { to_next result ≡ room_after room b }
 {
-    if room == MOST_NAME {
-        if is_letter(b) { Some(room - 1) } else { None }
-    } else if b == LINE_END {
-        Some(MOST_NAME)
-    } else if room > 0 && is_name_byte(b) {
-        Some(room - 1)
-    } else {
-        None
+    match room {
+        MOST_NAME => is_letter(b).then_some(MOST_NAME - 1),
+        _ if b == LINE_END => Some(MOST_NAME),
+        0 => None,
+        _ => is_name_byte(b).then_some(room - 1),
     }
 }
 
