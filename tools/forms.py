@@ -61,13 +61,23 @@ def together():
     show('5 facts required in three or more functions', ['%s: %s' % (f, ', '.join(sorted(n))) for f, n in sorted(facts.items()) if len(n) > 2])
     show('5 parameters together in three or more functions', ['%s: %s: %s and %s: %s: %s' % (k[0], *k[1], *k[2], ', '.join(sorted(n))) for k, n in sorted(pairs.items()) if len(n) > 2])
 
-lines('1 a fault or a flag beside a value, or in an Option', r'fault: Option<|-> Option<(usize|\w+Fault)>|: bool,$')
-lines('1 numbers for kinds, for refusals, or for what is not there', r'number: u8|TOO_MUCH: |None => 0|first: 0,|unwrap_or\(0\)')
+def fields():
+    found = []
+    for path, text in sources():
+        for name, body in re.findall(r'^(?:pub )?struct (\w+)[^;{]*\{\n(.*?)^\}', text, re.M | re.S):
+            rows = [f.strip() for f in body.split('\n') if re.match(r' +(?:pub(?:\(crate\))? )?\w+: ', f) and 'ghost' not in f]
+            if any('[' in f for f in rows):
+                found.append('%s %s { %s }' % (path, name, ' '.join(rows)))
+    show('6 structs that hold arrays or slices', found)
+
+lines('1 a fault or a flag beside a value, or in an Option', r'fault: Option<|^ *(pub(\(crate\))? )?fn \w+.*-> Option<(usize|\w+Fault)>$|: bool,$')
+lines('1 numbers for kinds, for refusals, for what is not there, or for nothing', r'number: u8|TOO_MUCH: |None => 0|first: 0,|unwrap_or\(0\)|\(\) -> u8$')
 twins()
 lines('3 loops over a range, by `while`, and counts by hand', r'for \w+ in .*\.\.|while |\+= 1')
 lines('4 conversions by hand', r'/ 256|% 256|\* 256| as (u8|u16|u32|usize)\b|None => None')
 lines("4 words and sentences of cases, and printing by hand", r"-> &'static str|fn (print|show)_\w+")
 lines('4 equality by hand', r'fn same_\w+|impl.* PartialEq|impl.* Clone')
 together()
-lines('6 arrays, and lengths beside them', r'^    (pub )?\w+: (&\'?\w* ?)?\[|^    (pub )?(count|used|places|n): |: &(mut )?\[\w+; ')
+fields()
+lines('6 arrays as parameters', r'fn .*: &(mut )?\[\w+; ')
 lines('7 functions in tables, switches on a step', r'fn\(|\[fn|dyn |Box<')

@@ -1,4 +1,3 @@
-pub mod Rows
-pub mod Steps
+pub mod Cuts
 pub mod Places
 pub mod Sheets

@@ -1,12 +1,16 @@
 -- Places: the machine takes exactly the runs of names, so where it stops the bytes break them.
-use Rattle.std.proofs.Common.{◌≡◌, ℕ, zero, suc, ◌-◌, ◌<◌, Bool, true, false, cond, ◌&&◌, ltb, List, [], ◌∷◌, ◌++◌, length, sym, refl, ap, ◌∙◌, ⊎_elim, arith}
+use Rattle.std.proofs.Common.{◌≡◌, ◌≢◌, ℕ, zero, suc, ◌-◌, ◌<◌, Bool, true, false, cond, ◌&&◌, ltb, List, [], ◌∷◌, ◌++◌, length, sym, refl, ap, ◌∙◌, ⊎_elim, arith}
 use Rattle.std.proofs.lemmas.Bool.{eq-eqb, ne_eqb, lt-ltb, cases_eq, cases_Bool, and_parts, and_from, false≢true}
 use Rattle.model.specs.Names.{is_letter, is_name_byte, are_name_bytes}
-use Rattle.grammar.specs.Machines.{Next, dead, go, taken, stops}
+use Rattle.grammar.specs.Machines.{Next, dead, go, Out, taken, stops}
 use Rattle.grammar.proofs.Stopping.{clash, breaks_in}
 use Rattle.names.specs.Sheet.{sheet_text, are_names, Run, Breaks}
 use Rattle.names.specs.Rule.{fresh, room_after, is_fresh, run}
-use Rattle.names.proofs.Steps.{go_on}
+
+-- what follows a byte that leaves this room
+abbrev go_on : List ℕ → Next ℕ → Out
+go_on t dead = stops (suc (length t))
+go_on t (go r) = run r t
 
 -- what a byte does, in each case
 on_letter : (b : ℕ) → is_letter b ≡ true → room_after 24 b ≡ go 23
@@ -28,7 +32,7 @@ inside_more k b n m =
     let d : suc k - 1 ≡ k = omega arith in
     inside (suc k) b n m ∙ rw (l, d) refl
 
-no_end : (b : ℕ) → is_name_byte b ≡ true → b ≡ 10 → ⊥
+pub no_end : (b : ℕ) → is_name_byte b ≡ true → b ≢ 10
 no_end b e q = false≢true (sym (ap is_name_byte q) ∙ e)
 
 on_name_lem : (k b : ℕ) → (suc k ≡ 24 → ⊥) → is_name_byte b ≡ true → room_after (suc k) b ≡ go k

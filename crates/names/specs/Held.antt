@@ -1,8 +1,8 @@
 -- What a names sheet holds.
-use Rattle.std.specs.Prelude.{ℕ, List, Some, None, Ok, Err, Option, Result}
+use Rattle.std.specs.Prelude.{◌≡◌, ℕ, List, Some, None, Ok, Err, IfOk, Option, Result}
 use Rattle.names.specs.declared.NamesFault.{NamesFault}
 use Rattle.names.specs.declared.sheet.Sheet.{Sheet}
-use Rattle.names.specs.Sheet.{line_ends}
+use Rattle.names.specs.Sheet.{line_ends, Checked}
 use Rattle.names.specs.Labels.{Labels, label_among}
 
 abbrev pub bytes_of : Sheet → List ℕ
@@ -23,3 +23,14 @@ judged (Some f) n = Err f
 
 abbrev pub outcome_of : Sheet → Result ℕ NamesFault
 outcome_of s = judged s.fault (line_ends s.bytes.now)
+
+abbrev pub parse_outcome : Result Sheet NamesFault → Result ℕ NamesFault
+parse_outcome (Ok s) = outcome_of s
+parse_outcome (Err f) = Err f
+
+-- The bytes are read: with no fault where the check accepts them, and otherwise not, for the check's fault.
+pub record Parsed (t : List ℕ) (r : Result Sheet NamesFault) : Type 0 where
+  pub answers : Checked t (parse_outcome r)
+  pub only : (other : Result ℕ NamesFault) → Checked t other → other ≡ parse_outcome r
+  pub keeps : IfOk r (λ s. bytes_of s ≡ t)
+  pub faultless : IfOk r (λ s. fault_of s ≡ None)

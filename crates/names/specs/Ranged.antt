@@ -10,7 +10,7 @@ use Rattle.names.specs.Labels.{InRange, names_among, label_among}
 use Rattle.names.specs.Held.{labels_of}
 
 -- as many rows as line ends
-rows_are_ends : (row t : List ℕ) → length (rows_after row t) ≡ line_ends t
+pub rows_are_ends : (row t : List ℕ) → length (rows_after row t) ≡ line_ends t
 rows_are_ends row [] = refl
 rows_are_ends row (b ∷ t) = by (b == 10) (rows_are_ends [] t) (rows_are_ends (row ++ (b ∷ [])) t)
   where

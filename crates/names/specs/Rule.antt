@@ -1,7 +1,9 @@
 -- A byte machine that takes exactly the runs of names; contracts of the code cite it, and a theorem joins it to the sheets.
-use Rattle.std.specs.Prelude.{◌≡◌, ℕ, ◌-◌, ◌≤◌, Bool, cond, ◌&&◌, List, length, Some, None, Option, ◌==◌, nat_lt}
+use Rattle.std.specs.Prelude.{ℕ, ◌-◌, Bool, cond, ◌&&◌, List, Some, None, Ok, Err, Option, Result, ◌==◌, nat_lt}
 use Rattle.model.specs.Names.{most_name, is_letter, is_name_byte}
 use Rattle.grammar.specs.Machines.{Next, dead, go, Out, taken, stops, runs}
+use Rattle.names.specs.declared.NamesFault.{NamesFault}
+use Rattle.names.specs.declared.NamesFault.TheVariants.{BadName}
 
 -- The state is the room that is left in the name: a name that has not begun has all of it.
 abbrev pub fresh : ℕ
@@ -23,7 +25,7 @@ abbrev pub to_next : Option ℕ → Next ℕ
 to_next None = dead
 to_next (Some r) = go r
 
--- the place at which the machine stops on the bytes, or none
-abbrev pub Stopped : List ℕ → Option ℕ → Type 0
-Stopped t None = run fresh t ≡ taken
-Stopped t (Some p) = (p ≤ length t) × (run fresh t ≡ stops (length t - p))
+-- the fault of so many bytes, if the machine stops on them
+abbrev pub stopped : ℕ → Out → Result (Unit {0}) NamesFault
+stopped len taken = Ok tt
+stopped len (stops left) = Err (BadName (len - left))

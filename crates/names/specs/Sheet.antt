@@ -57,6 +57,11 @@ repeat_after before p (n ∷ ns) = cond (is_some (label_from 1 before n)) (Some 
 abbrev pub first_repeat : List (List ℕ) → Option ℕ
 first_repeat ns = repeat_after [] 0 ns
 
+-- the fault of a sheet in which a row repeats, if one does
+abbrev pub repeated : Option ℕ → Result (Unit {0}) NamesFault
+repeated None = Ok tt
+repeated (Some p) = Err (Repeated p)
+
 -- how many bytes 10
 abbrev pub line_ends : List ℕ → ℕ
 line_ends [] = 0

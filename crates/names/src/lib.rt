@@ -1,16 +1,18 @@
 // The names sheet: a run of names, each ended by a line end. The first name has label 1, the next 2.
 #![tactic(auto)]
 
-ghost use Rattle.std.specs.Prelude.{◌≡◌, ℕ, Result};
+ghost use Rattle.std.specs.Prelude.{◌≡◌, ℕ, Result, length};
 ghost use Rattle.model.specs.Names.{is_letter, is_name_byte};
-ghost use Rattle.names.specs.Sheet.{label_in, line_ends, rows, first_repeat, Checked};
-ghost use Rattle.names.specs.Rule.{room_after, to_next, Stopped};
+ghost use Rattle.names.specs.Sheet.{label_in, line_ends, rows, first_repeat, repeated, Checked};
+ghost use Rattle.names.specs.Rule.{room_after, to_next, fresh, run, stopped};
 ghost use Rattle.names.specs.Refusals.{names_refusal, names_sentence};
 ghost use Rattle.names.specs.declared.NamesFault.{NamesFault};
 
+use crate::rows::Rows;
 use model::fault::{Described, Fault, Layer, Refusal};
 
 pub mod lookup;
+mod rows;
 pub mod sheet;
 
 // The most bytes of a sheet.
@@ -69,94 +71,69 @@ impl Described for NamesFault {
 pub fn is_letter(b: u8) -> bool
     ensures { result ≡ is_letter b }
 {
-    (b >= b'A' && b <= b'Z') || (b >= b'a' && b <= b'z')
+    matches!(b, b'A'..=b'Z' | b'a'..=b'z')
 }
 
 // Whether the byte may stand in a name after its first.
 pub fn is_name_byte(b: u8) -> bool
     ensures { result ≡ is_name_byte b }
 {
-    is_letter(b) || (b >= b'0' && b <= b'9') || b == b'-' || b == b'_' || b == b'.'
+    is_letter(b) || matches!(b, b'0'..=b'9' | b'-' | b'_' | b'.')
 }
 
 // The label of the name in the sheet, or none.
 pub fn label(sheet: &[u8], name: &[u8]) -> Option<usize>
     ensures { result ≡ label_in sheet.now name.now }
 {
-    let mut label = 1;
-    let mut start = 0;
-    for (i, b) in sheet.iter().enumerate() {
-        if *b == LINE_END {
-            if &sheet[start..i] == name {
-                return Some(label);
-            }
-            label += 1;
-            start = i + 1;
-        }
-    }
-    None
+    Rows(sheet).position(|row| row == name).map(|i| i + 1)
 }
 
 // How many line ends the sheet has.
 fn line_ends(sheet: &[u8]) -> usize
     ensures { result ≡ line_ends sheet.now }
 {
-    let mut n = 0;
-    for b in sheet {
-        if *b == LINE_END {
-            n += 1;
-        }
-    }
-    n
+    sheet.iter().filter(|b| **b == LINE_END).count()
 }
 
 // What room the byte leaves in its name, or none where it is refused.
 fn next(room: usize, b: u8) -> Option<usize>
     ensures { to_next result ≡ room_after room b }
 {
-    if room == MOST_NAME {
-        if is_letter(b) { Some(room - 1) } else { None }
-    } else if b == LINE_END {
-        Some(MOST_NAME)
-    } else if room > 0 && is_name_byte(b) {
-        Some(room - 1)
-    } else {
-        None
+    match room {
+        MOST_NAME => is_letter(b).then_some(MOST_NAME - 1),
+        _ if b == LINE_END => Some(MOST_NAME),
+        0 => None,
+        _ => is_name_byte(b).then_some(room - 1),
     }
 }
 
-// Where the sheet stops being a run of names, if it does.
-fn broken(sheet: &[u8]) -> Option<usize>
-    ensures { Stopped sheet.now result }
+// Whether the sheet is a run of names, or the fault where it stops being one.
+fn run_of_names(sheet: &[u8]) -> Result<(), NamesFault>
+    ensures { result ≡ stopped (length sheet.now) (run fresh sheet.now) }
 {
     let mut room = MOST_NAME;
     for (i, b) in sheet.iter().enumerate() {
-        match next(room, *b) {
-            Some(r) => room = r,
-            None => return Some(i),
-        }
+        room = next(room, *b).ok_or(NamesFault::BadName(i))?;
     }
     if room == MOST_NAME {
-        None
+        Ok(())
     } else {
-        Some(sheet.len())
+        Err(NamesFault::BadName(sheet.len()))
     }
 }
 
-// Where the first row begins that stands earlier too, if there is one.
-fn repeat(sheet: &[u8]) -> Option<usize>
-    ensures { result ≡ first_repeat (rows sheet.now) }
+// Whether each row stands once, or the fault of the first that stands earlier too.
+fn no_repeat(sheet: &[u8]) -> Result<(), NamesFault>
+    ensures { result ≡ repeated (first_repeat (rows sheet.now)) }
 {
     let mut start = 0;
-    for (i, b) in sheet.iter().enumerate() {
-        if *b == LINE_END {
-            if label(&sheet[..start], &sheet[start..i]).is_some() {
-                return Some(start);
-            }
-            start = i + 1;
+    for row in Rows(sheet) {
+        if label(&sheet[..start], row).is_some() {
+            return Err(NamesFault::Repeated(start));
         }
+        start += row.len() + 1;
     }
-    None
+    Ok(())
 }
 
 // Checks a sheet of any contents: the number of its names, or why it is refused. No other answer meets the definition.
@@ -168,11 +145,7 @@ pub fn check(sheet: &[u8]) -> Result<usize, NamesFault>
     if sheet.len() > MOST_SHEET || ends > MOST_NAMES {
         return Err(NamesFault::TooMuch);
     }
-    match broken(sheet) {
-        Some(p) => Err(NamesFault::BadName(p)),
-        None => match repeat(sheet) {
-            Some(p) => Err(NamesFault::Repeated(p)),
-            None => Ok(ends),
-        },
-    }
+    run_of_names(sheet)?;
+    no_repeat(sheet)?;
+    Ok(ends)
 }

@@ -23,15 +23,15 @@ pub enum Command {
 pub fn read_number(digits: &[u8]) -> Option<u16>
     ensures { result ≡ number_in digits.now }
 {
-    if digits.len() == 0 || digits.len() > MOST_DIGITS {
+    if digits.is_empty() || digits.len() > MOST_DIGITS {
         return None;
     }
-    let mut n = 0u16;
+    let mut n = 0;
     for digit in digits {
-        if *digit < b'0' || *digit > b'9' {
+        if !digit.is_ascii_digit() {
             return None;
         }
-        n = 10 * n + (*digit - b'0') as u16;
+        n = 10 * n + u16::from(*digit - b'0');
     }
     Some(n)
 }
@@ -39,22 +39,16 @@ pub fn read_number(digits: &[u8]) -> Option<u16>
 fn opening(digits: &[u8]) -> Option<Command>
     ensures { result ≡ opening_in digits.now }
 {
-    match read_number(digits) {
-        Some(label) => Some(Command::Act(Action::Open(label))),
-        None => None,
-    }
+    read_number(digits).map(|label| Command::Act(Action::Open(label)))
 }
 
 fn rolling(digits: &[u8]) -> Option<Command>
     ensures { result ≡ rolling_in digits.now }
 {
-    if digits.len() == 0 {
+    if digits.is_empty() {
         return Some(Command::Roll(None));
     }
-    match read_number(digits) {
-        Some(space) => Some(Command::Roll(Some(space))),
-        None => None,
-    }
+    read_number(digits).map(|space| Command::Roll(Some(space)))
 }
 
 // "+" and a label opens, "-" closes, "=" writes the roll, "=" and a number writes it into that many bytes, "*" begins anew.

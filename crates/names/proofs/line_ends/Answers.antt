@@ -1,17 +1,13 @@
-use Rattle.std.proofs.Common.{◌<◌, length, arith}
-use Rattle.names.proofs.Steps.{ends_more, ends_same, no_ends}
+use Rattle.std.proofs.Common.{◌≡◌, ◌==◌, ◌+◌, ℕ, Bool, true, false, cond, count_by, sym, refl, ◌∙◌, rules, arith}
+use Rattle.std.proofs.lemmas.List.Recursion.{is_count_by}
+use Rattle.names.specs.Sheet.{line_ends}
 use Rattle.names.proofs.line_ends.Goals as goal
-use Rattle.names.proofs.line_ends.Goals.{then-b-eq-LINE_END, else-b-eq-LINE_END}
 
-pub loop-b-preserved : goal.loop-b-preserved
-loop-b-preserved c =
-    let l = c.loop-b in
-    let t = c.args.sheet.now in
-    let h : l.b-index < length t = omega arith in
-    elim c.if-b-eq-LINE_END.branch [
-      | then-b-eq-LINE_END w ↦ (omega (arith, w.n-is), omega (arith, w.n-is, ends_more t l.b-index h w.if-b-eq-LINE_END.true))
-      | else-b-eq-LINE_END w ↦ (omega (arith, w.n-is), omega (arith, w.n-is, ends_same t l.b-index h w.if-b-eq-LINE_END.false))
-    ]
+one_more : (v : Bool) (n : ℕ) → cond v (n + 1) n ≡ cond v (1 + n) n
+one_more true n = omega arith
+one_more false n = refl
 
 pub returns : goal.returns
-returns c = omega (arith, no_ends c.args.sheet.now c.loop-b.b-index (omega arith))
+returns c =
+    let counted : c.count.result ≡ count_by (λ b. b == 10) c.args.sheet.now = search rules in
+    counted ∙ sym (is_count_by line_ends (λ b. b == 10) refl (λ b t. one_more (b == 10) (line_ends t)) c.args.sheet.now)

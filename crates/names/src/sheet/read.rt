@@ -1,7 +1,7 @@
 // Reading bytes as a names sheet, and its names.
 ghost use Rattle.std.specs.Prelude.{◌≡◌, ℕ, Result};
 ghost use Rattle.names.specs.Sheet.{Checked};
-ghost use Rattle.names.specs.Held.{bytes_of, fault_of, labels_of, outcome_of};
+ghost use Rattle.names.specs.Held.{bytes_of, fault_of, labels_of, outcome_of, Parsed};
 ghost use Rattle.names.specs.Ranged.{labels_ranged};
 ghost use Rattle.names.specs.declared.NamesFault.{NamesFault};
 
@@ -16,14 +16,9 @@ impl<'a> Sheet<'a> {
         ensures only { (other : Result ℕ NamesFault) → Checked bytes.now other → other ≡ outcome_of result }
         ensures keeps { bytes_of result ≡ bytes.now }
     {
-        match check(bytes) {
-            Ok(_names) => return Sheet { bytes, fault: None },
-            Err(fault) => {
-                return Sheet {
-                    bytes,
-                    fault: Some(fault),
-                };
-            }
+        Sheet {
+            bytes,
+            fault: check(bytes).err(),
         }
     }
 
@@ -35,14 +30,26 @@ impl<'a> Sheet<'a> {
     }
 }
 
+impl<'a> TryFrom<&'a [u8]> for Sheet<'a> {
+    type Error = NamesFault;
+
+    ghost try_from_gives = { λ bytes r. Parsed bytes.now r };
+
+    // The sheet of bytes that the check accepts.
+    fn try_from(bytes: &'a [u8]) -> Result<Sheet<'a>, NamesFault> {
+        check(bytes)?;
+        Ok(Sheet { bytes, fault: None })
+    }
+}
+
 impl<'a> Naming for Sheet<'a> {
     ghost labels = { labels_of };
 
     fn label(&self, name: &[u8]) -> Option<usize> {
-        match self.fault {
-            Some(_) => None,
-            None => label(self.bytes, name),
-        }
+        let None = self.fault else {
+            return None;
+        };
+        label(self.bytes, name)
     }
 }
 
