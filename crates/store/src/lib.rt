@@ -9,8 +9,6 @@ pub trait Store {
     // The receipt that the store holds.
     ghost receipt: { Self → Receipt };
 
-    ghost lawful: { (s : Self) → Lawful (receipt s) };
-
     // The number of elements.
     fn count(&self) -> usize
         ensures { result ≡ count_of (receipt self.now) };
@@ -40,6 +38,9 @@ pub trait Store {
     fn previous_sibling(&self, rank: usize) -> Option<usize>
         ensures value { result ≡ previous_sibling_of (receipt self.now) rank }
         ensures bound { IfSome result (λ s. (s < rank) × (rank < count_of (receipt self.now))) };
+
+    // The receipt of every value is lawful.
+    ghost lawful: { (s : Self) → Lawful (receipt s) };
 }
 
 // Where the element of the next opening would stand.

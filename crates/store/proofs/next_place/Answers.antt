@@ -10,7 +10,7 @@ pub up-preserved : goal.up-preserved
 up-preserved g c =
     let w = rw c.in-Some.is at c.up.invariant in
     let h = w.in_it in
-    climbed_up (g.S.Store.receipt c.args.s.now) (g.S.Store.lawful c.args.s.now) (omega arith) c.in-Some.at c.up.previous c.parent-parent.result w (grind (arith, common_steps, h)) c.parent-parent.ensures.value
+    climbed_up (g.S.Store.receipt c.args.s.now) (g.met.S.Store.lawful c.args.s.now) (omega arith) c.in-Some.at c.up.previous c.parent-parent.result w (grind (arith, common_steps, h)) c.parent-parent.ensures.value
 
 pub returns-else-is_some_and : goal.returns-else-is_some_and
 returns-else-is_some_and g c =
