@@ -1,8 +1,8 @@
 -- The walk from the last element up to the innermost open one.
-use Rattle.std.proofs.Common.{◌≡◌, ℕ, zero, suc, ◌+◌, ◌-◌, ◌<◌, ◌≤◌, false, List, Some, None, Option, sym, refl, ap, ◌∙◌, ⊎_elim, arith, MatchOption}
+use Rattle.std.proofs.Common.{◌≡◌, ℕ, zero, suc, ◌+◌, ◌<◌, ◌≤◌, false, List, Some, None, Option, sym, refl, ap, ◌∙◌, ⊎_elim, arith, MatchOption}
 use Rattle.std.proofs.lemmas.Bool.{cases_eq, cases_lt, ne_eqb, cond-false}
 use Rattle.model.specs.Receipt.{Element, Receipt, Lawful, count_of, level_at, nearest, parent_of, last_where, same_rank, innermost, last_inside}
-use Rattle.model.proofs.Relatives.{parent_some, between, nearest_is}
+use Rattle.model.proofs.Relatives.{parent_none, parent_some, between, nearest_is}
 use Rattle.model.proofs.Search.{last_none, last_is, apart_rank, same_rank_lem}
 
 -- What a walk from the last element upwards has found: all after `at` lies below it, and `previous` is the child that it came from.
@@ -12,10 +12,7 @@ pub record Reached (r : Receipt) (at : ℕ) (previous : Option ℕ) : Type 0 whe
   pub high : r.depth ≤ level_at r at + 1
   pub from : MatchOption previous (at + 1 ≡ count_of r) (λ q. (parent_of r q ≡ Some at) × ((k : ℕ) → q < k → k < count_of r → level_at r q < level_at r k))
 
-pub reached_first : (r : Receipt) → Lawful r → 0 < count_of r → Reached r (count_of r - 1) None
-reached_first r l h = record { in_it = omega arith; deeper = λ k a b. absurd (omega arith); high = l.open_depth (count_of r - 1) (omega arith); from = omega arith }
-
-pub reached_up : (r : Receipt) → Lawful r → (at p : ℕ) (previous : Option ℕ) → Reached r at previous → r.depth ≤ level_at r at → parent_of r at ≡ Some p → Reached r p (Some at)
+reached_up : (r : Receipt) → Lawful r → (at p : ℕ) (previous : Option ℕ) → Reached r at previous → r.depth ≤ level_at r at → parent_of r at ≡ Some p → Reached r p (Some at)
 reached_up r l at p previous w high e =
     let s = parent_some r at p e in
     record {
@@ -25,6 +22,15 @@ reached_up r l at p previous w high e =
       high = omega arith;
       from = (e, w.deeper);
     }
+
+-- The walk has not gone past the first element.
+abbrev pub Climbed : Receipt → Option ℕ → Option ℕ → Type 0
+Climbed r None previous = ⊥
+Climbed r (Some at) previous = Reached r at previous
+
+pub climbed_up : (r : Receipt) → Lawful r → 0 < r.depth → (at : ℕ) (previous o : Option ℕ) → Reached r at previous → r.depth ≤ level_at r at → o ≡ parent_of r at → Climbed r o (Some at)
+climbed_up r l d at previous None w high e = let z = parent_none r l at w.in_it (sym e) in omega arith
+climbed_up r l d at previous (Some p) w high e = reached_up r l at p previous w high (sym e)
 
 reached_previous : (r : Receipt) (at : ℕ) (previous : Option ℕ) → Reached r at previous → last_where (λ j. same_rank (parent_of r j) (Some at)) (count_of r) ≡ previous
 reached_previous r at None w = last_none _ (count_of r) (λ j h. apart_rank (parent_of r j) at (λ e. let s = parent_some r j at e in omega (arith, w.from)))
@@ -52,7 +58,3 @@ pub no_place : (r : Receipt) → r.depth ≡ 0 → (None ≡ innermost r) × (No
 no_place r e =
     let up = nearest_at_zero r.elements r.depth (count_of r) e in
     (sym up, sym (last_none _ (count_of r) (λ j h. ap (same_rank (parent_of r j)) up ∙ same_as_none (parent_of r j))))
-
--- With something open there is an element.
-pub some_element : (r : Receipt) → Lawful r → 0 < r.depth → 0 < count_of r
-some_element r l h = ⊎_elim (λ (z : count_of r ≡ 0). let d = l.empty_depth z in absurd (omega arith)) (λ ne. omega arith) (cases_eq (count_of r) 0)

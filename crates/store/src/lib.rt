@@ -9,8 +9,6 @@ pub trait Store {
     // The receipt that the store holds.
     ghost receipt: { Self → Receipt };
 
-    ghost lawful: { (s : Self) → Lawful (receipt s) };
-
     // The number of elements.
     fn count(&self) -> usize
         ensures { result ≡ count_of (receipt self.now) };
@@ -40,6 +38,9 @@ pub trait Store {
     fn previous_sibling(&self, rank: usize) -> Option<usize>
         ensures value { result ≡ previous_sibling_of (receipt self.now) rank }
         ensures bound { IfSome result (λ s. (s < rank) × (rank < count_of (receipt self.now))) };
+
+    // The receipt of every value is lawful.
+    ghost lawful: { (s : Self) → Lawful (receipt s) };
 }
 
 // Where the element of the next opening would stand.
@@ -51,44 +52,27 @@ pub struct Place {
     pub previous: Option<usize>,
 }
 
-// The level of an element that is there.
-fn level_at<S: Store>(s: &S, rank: usize) -> u8
-    requires { rank < count_of (S.receipt s.now) }
-    ensures { result ≡ level_at (S.receipt s.now) rank }
-{
-    match s.level(rank) {
-        Some(v) => v,
-        None => 0,
-    }
-}
-
 // The place of the next opening's element, found from the last element upwards. On an empty or an ended receipt it has no relatives.
 pub fn next_place<S: Store>(s: &S) -> Place
     ensures parent { result.parent ≡ innermost (S.receipt s.now) }
     ensures previous { result.previous ≡ last_inside (S.receipt s.now) }
 {
-    let d = s.depth();
-    if d == 0 {
+    let depth = s.depth();
+    if depth == 0 {
         return Place {
             parent: None,
             previous: None,
         };
     }
-    let mut at = s.count() - 1;
+    let mut parent = s.count().checked_sub(1);
     let mut previous = None;
-    'up: while level_at(s, at) >= d {
-        match s.parent(at) {
-            Some(p) => {
-                previous = Some(at);
-                at = p;
-            }
-            None => unreachable(),
-        }
+    'up: while let Some(at) = parent
+        && s.level(at).is_some_and(|l| l >= depth)
+    {
+        previous = Some(at);
+        parent = s.parent(at);
     }
-    Place {
-        parent: Some(at),
-        previous,
-    }
+    Place { parent, previous }
 }
 
 // Whether both stores have the same label and level at a rank.
@@ -102,13 +86,7 @@ fn same_element<S: Store, U: Store>(s: &S, u: &U, rank: usize) -> bool
 pub fn same_receipt<S: Store, U: Store>(s: &S, u: &U) -> bool
     ensures { Decides result (S.Store.receipt s.now ≡ U.Store.receipt u.now) }
 {
-    if s.count() != u.count() || s.depth() != u.depth() {
-        return false;
-    }
-    for rank in 0..s.count() {
-        if !same_element(s, u, rank) {
-            return false;
-        }
-    }
-    true
+    s.count() == u.count()
+        && s.depth() == u.depth()
+        && (0..s.count()).all(|rank| same_element(s, u, rank))
 }

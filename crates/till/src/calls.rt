@@ -1,16 +1,17 @@
 // Beginning, opening, closing, and lists of these.
 ghost use Rattle.std.specs.Prelude.{◌≡◌, length};
 ghost use Rattle.model.specs.Receipt.{Lawful, count_of, empty};
-ghost use Rattle.model.specs.Runs.{accepted, after, after_one, answer, effects, fault_of};
+ghost use Rattle.model.specs.Runs.{accepted, after, after_one, answer, effects, fault_of, opening_fault};
 ghost use Rattle.model.specs.declared.action.Action.TheVariants.{Open, Close};
 ghost use Rattle.till.specs.Held.{KeepsRecords, receipt_of};
 
 use crate::Till;
 use crate::link::{Link, attach};
+use arrayvec::ArrayVec;
 use model::action::Action;
 use model::fault::ReceiptFault;
-use model::limits::{MOST_DEPTH, MOST_ELEMENTS, MOST_LABEL};
-use store::{Store, next_place};
+use model::limits::{MOST_DEPTH, MOST_LABEL};
+use store::{Place, next_place};
 
 impl Till {
     // A store that holds the empty receipt.
@@ -18,8 +19,7 @@ impl Till {
         ensures { receipt_of result ≡ empty }
     {
         Till {
-            links: [Link::UNUSED; MOST_ELEMENTS],
-            count: 0,
+            links: ArrayVec::new(),
             depth: 0,
         }
     }
@@ -30,35 +30,41 @@ impl Till {
         ensures holds { receipt_of self.new ≡ after_one (Open label) (receipt_of self.old) }
         ensures keeps { KeepsRecords self.old self.new }
     {
+        self.may_open(label)?;
+        let rank = self.links.len();
+        let Place { parent, previous } = next_place(self);
+        attach(
+            &mut self.links,
+            Link {
+                label,
+                level: self.depth,
+                parent,
+                child: None,
+                next: None,
+                previous,
+            },
+        );
+        self.depth += 1;
+        Ok(rank)
+    }
+
+    // Refuses an opening for the first reason that applies.
+    fn may_open(&self, label: u16) -> Result<(), ReceiptFault>
+        ensures { result ≡ answer (opening_fault label (receipt_of self.now)) tt }
+    {
         if label == 0 || label > MOST_LABEL {
             return Err(ReceiptFault::BadLabel);
         }
-        if self.count > 0 && self.depth == 0 {
+        if self.depth == 0 && !self.links.is_empty() {
             return Err(ReceiptFault::Ended);
         }
-        if self.count >= MOST_ELEMENTS {
+        if self.links.is_full() {
             return Err(ReceiptFault::Full);
         }
         if self.depth >= MOST_DEPTH {
             return Err(ReceiptFault::TooDeep);
         }
-        let place = next_place(self);
-        let n = self.count;
-        attach(
-            &mut self.links,
-            n,
-            Link {
-                label,
-                level: self.depth,
-                parent: place.parent,
-                child: None,
-                next: None,
-                previous: place.previous,
-            },
-        );
-        self.count = n + 1;
-        self.depth += 1;
-        Ok(n)
+        Ok(())
     }
 
     // Closes the innermost open element.
@@ -79,10 +85,7 @@ impl Till {
         ensures holds { receipt_of self.new ≡ after_one action (receipt_of self.old) }
     {
         match action {
-            Action::Open(label) => {
-                let _rank = self.open(label)?;
-                Ok(())
-            }
+            Action::Open(label) => self.open(label).map(|_| ()),
             Action::Close => self.close(),
         }
     }

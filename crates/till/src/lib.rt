@@ -2,40 +2,35 @@
 #![tactic(auto)]
 
 ghost use Rattle.std.specs.Prelude.{◌≡◌, ◌≤◌, length};
-ghost use Rattle.model.specs.Receipt.{count_of};
-ghost use Rattle.model.specs.Rules.{Ends, Ranged, Stepped, lawfully};
-ghost use Rattle.till.specs.Links.{Linked, Reads, told};
+ghost use Rattle.std.proofs.Props.{props};
+ghost use Rattle.arrayvec.specs.ArrayVec.{array_vec_len};
+ghost use Rattle.model.specs.Receipt.{Lawful};
+ghost use Rattle.till.specs.Links.{Linked, told};
 
 use crate::link::Link;
+use arrayvec::ArrayVec;
 use model::limits::MOST_ELEMENTS;
 use store::Store;
 
 pub mod calls;
 mod link;
 
-// The first `count` records tell the receipt: each its element, and the links that the receipt gives that element.
+// The records tell the receipt: each its element, and the links that the receipt gives that element.
 #[derive(Drop)]
 pub struct Till {
-    links: [Link; MOST_ELEMENTS],
-    count: usize,
+    links: ArrayVec<Link, MOST_ELEMENTS>,
     depth: u8,
-    ghost room: { length links ≡ 256 },
-    ghost few: { count ≤ 256 },
-    ghost counted: { count_of (told links count depth) ≡ count },
-    ghost reads: { Reads links count depth },
-    ghost stepped: { Stepped (told links count depth) },
-    ghost ranged: { Ranged (told links count depth) },
-    ghost ends: { Ends (told links count depth) },
-    ghost linked: { Linked links count depth },
+    ghost lawful: { Lawful (told links.items depth) } by { Prim.hlevel props },
+    ghost linked: { Linked links.items depth } by { Prim.hlevel props },
 }
 
 impl Store for Till {
-    ghost receipt = { λ t. told t.links t.count t.depth };
+    ghost receipt = { λ t. told t.links.items t.depth };
 
-    ghost lawful = { λ t. lawfully (told t.links t.count t.depth) t.count t.counted t.few t.stepped t.ranged t.ends };
+    ghost lawful = { λ t. t.lawful };
 
     fn count(&self) -> usize {
-        self.count
+        self.links.len()
     }
 
     fn depth(&self) -> u8 {
@@ -43,50 +38,26 @@ impl Store for Till {
     }
 
     fn label(&self, rank: usize) -> Option<u16> {
-        if rank < self.count {
-            Some(self.links[rank].label)
-        } else {
-            None
-        }
+        self.links.get(rank).map(|l| l.label)
     }
 
     fn level(&self, rank: usize) -> Option<u8> {
-        if rank < self.count {
-            Some(self.links[rank].level)
-        } else {
-            None
-        }
+        self.links.get(rank).map(|l| l.level)
     }
 
     fn parent(&self, rank: usize) -> Option<usize> {
-        if rank < self.count {
-            self.links[rank].parent
-        } else {
-            None
-        }
+        self.links.get(rank).and_then(|l| l.parent)
     }
 
     fn first_child(&self, rank: usize) -> Option<usize> {
-        if rank < self.count {
-            self.links[rank].child
-        } else {
-            None
-        }
+        self.links.get(rank).and_then(|l| l.child)
     }
 
     fn next_sibling(&self, rank: usize) -> Option<usize> {
-        if rank < self.count {
-            self.links[rank].next
-        } else {
-            None
-        }
+        self.links.get(rank).and_then(|l| l.next)
     }
 
     fn previous_sibling(&self, rank: usize) -> Option<usize> {
-        if rank < self.count {
-            self.links[rank].previous
-        } else {
-            None
-        }
+        self.links.get(rank).and_then(|l| l.previous)
     }
 }

@@ -1,10 +1,12 @@
 ghost use Rattle.std.specs.Prelude.{◌≡◌, ℕ, ◌<◌, IfSome};
+ghost use Rattle.arrayvec.specs.ArrayVec.{array_vec_len};
 ghost use Rattle.till.specs.Links.{attached, with_child, with_next};
 
+use arrayvec::ArrayVec;
 use model::limits::MOST_ELEMENTS;
 
 // One element's record: what it is, and the ranks of its relatives.
-#[derive(Clone, Copy)]
+#[derive(Clone, Copy, Default)]
 pub struct Link {
     pub label: u16,
     pub level: u8,
@@ -15,16 +17,6 @@ pub struct Link {
 }
 
 impl Link {
-    // What stands in a place that no element has taken yet.
-    pub const UNUSED: Link = Link {
-        label: 0,
-        level: 0,
-        parent: None,
-        child: None,
-        next: None,
-        previous: None,
-    };
-
     fn precede(&mut self, next: usize)
         ensures { self.new ≡ with_next self.old next }
     {
@@ -38,17 +30,18 @@ impl Link {
     }
 }
 
-// Record n is new. The record of its previous sibling, or where it has none that of its parent, is lent and changed; no other is.
-pub(crate) fn attach(links: &mut [Link; MOST_ELEMENTS], n: usize, link: Link)
-    requires { (n < 256) × ((IfSome link.parent (λ p. p < 256)) × (IfSome link.previous (λ q. q < 256))) }
-    ensures { links.new ≡ attached links.old n link }
+// Appends a record. The record of its previous sibling, or where it has none that of its parent, is lent and changed; no other is.
+pub(crate) fn attach(links: &mut ArrayVec<Link, MOST_ELEMENTS>, link: Link)
+    requires room { array_vec_len links.old < 256 }
+    requires parent { IfSome link.parent (λ p. p < array_vec_len links.old) }
+    requires previous { IfSome link.previous (λ q. q < array_vec_len links.old) }
+    ensures { links.new.items ≡ attached links.old.items link }
 {
-    links[n] = link;
-    match link.previous {
-        Some(q) => links[q].precede(n),
-        None => match link.parent {
-            Some(p) => links[p].adopt(n),
-            None => {}
-        },
+    let rank = links.len();
+    links.push(link);
+    if let Some(q) = link.previous {
+        links[q].precede(rank);
+    } else if let Some(p) = link.parent {
+        links[p].adopt(rank);
     }
 }

@@ -1,22 +1,20 @@
-use Rattle.std.proofs.Common.{sym, arith}
-use Rattle.model.proofs.Relatives.{parent_none}
-use Rattle.store.proofs.Climb.{reached_up, reached_place, no_place, some_element}
+use Rattle.std.proofs.Common.{arith}
+use Rattle.std.proofs.lemmas.Grind.{common_steps}
+use Rattle.store.proofs.Climb.{climbed_up, reached_place, no_place}
 use Rattle.store.proofs.next_place.Goals as goal
 
-pub returns-then-d-eq0 : goal.returns-then-d-eq0
-returns-then-d-eq0 g c = let s = no_place (g.S.Store.receipt c.args.s.now) (omega arith) in record { parent = s.0; previous = s.1 }
-
-pub overflow_sub-at : goal.overflow_sub-at
-overflow_sub-at g c = let h = some_element (g.S.Store.receipt c.args.s.now) (g.S.Store.lawful c.args.s.now) (omega arith) in omega arith
+pub returns-then-depth-eq0 : goal.returns-then-depth-eq0
+returns-then-depth-eq0 g c = let s = no_place (g.S.Store.receipt c.args.s.now) (omega arith) in record { parent = s.0; previous = s.1 }
 
 pub up-preserved : goal.up-preserved
 up-preserved g c =
-    reached_up (g.S.Store.receipt c.args.s.now) (g.S.Store.lawful c.args.s.now) c.up.at c.in-Some.p c.up.previous c.up.invariant (omega arith) (sym c.in-Some.ensures.value)
+    let w = rw c.in-Some.is at c.up.invariant in
+    let h = w.in_it in
+    climbed_up (g.S.Store.receipt c.args.s.now) (g.met.S.Store.lawful c.args.s.now) (omega arith) c.in-Some.at c.up.previous c.parent-parent.result w (grind (arith, common_steps, h)) c.parent-parent.ensures.value
 
-pub unreachable-requires : goal.unreachable-requires
-unreachable-requires g c =
-    let z = parent_none (g.S.Store.receipt c.args.s.now) (g.S.Store.lawful c.args.s.now) c.up.at c.up.invariant.in_it (sym c.in-None.ensures.value) in
-    omega arith
-
-pub returns : goal.returns
-returns g c = let s = reached_place (g.S.Store.receipt c.args.s.now) c.up.at c.up.previous c.up.invariant (omega arith) in record { parent = s.0; previous = s.1 }
+pub returns-else-is_some_and : goal.returns-else-is_some_and
+returns-else-is_some_and g c =
+    let w = rw c.in-Some.is at c.up.invariant in
+    let h = w.in_it in
+    let s = reached_place (g.S.Store.receipt c.args.s.now) c.in-Some.at c.up.previous w (grind (arith, common_steps, h)) in
+    record { parent = s.0; previous = s.1 }

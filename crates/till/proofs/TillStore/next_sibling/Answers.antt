@@ -1,13 +1,8 @@
-use Rattle.std.proofs.Common.{get_or}
-use Rattle.model.specs.Receipt.{next_sibling_of}
+use Rattle.std.proofs.Common.{arith}
+use Rattle.std.proofs.lemmas.Grind.{common_steps}
 use Rattle.model.proofs.Bounds.{next_bound}
-use Rattle.till.specs.Links.{unused}
 use Rattle.till.specs.Held.{receipt_of}
-use Rattle.till.proofs.Grow.{mark_same}
 use Rattle.till.proofs.TillStore.next_sibling.Goals as goal
 
-pub returns-then-rank-self : goal.returns-then-rank-self
-returns-then-rank-self c =
-    let t = c.args.self.now in
-    let e = mark_same (get_or t.links c.args.rank unused).next (next_sibling_of (receipt_of t) c.args.rank) (t.linked c.args.rank c.if-rank-self.true).2 in
-    record { value = e; bound = next_bound (receipt_of t) c.args.rank _ e }
+pub returns-clause-bound : goal.returns-clause-bound
+returns-clause-bound c = next_bound (receipt_of c.args.self.now) c.args.rank _ (grind (arith, common_steps))
