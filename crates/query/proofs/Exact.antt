@@ -1,5 +1,6 @@
 -- Exact: a text that fits is refused by nothing, a refused text by one fault alone, and a text has one answer.
 use Rattle.std.proofs.Common.{◌≡◌, ℕ, ◌-◌, List, length, Some, None, Ok, Err, Option, Result, sym, refl, ap, ◌∙◌, arith}
+use Rattle.std.proofs.lemmas.Option.{none-some, same_Some}
 use Rattle.model.specs.Grammar.{PathTree, Query}
 use Rattle.grammar.proofs.Stopping.{one_place}
 use Rattle.grammar.proofs.Unique.{unambiguous}
@@ -14,10 +15,10 @@ use Rattle.query.specs.Theorems.{FittingIsAccepted, OneFault}
 
 -- an option is not both
 none_some : (o : Option ℕ) (u : ℕ) → o ≡ None → o ≡ Some u → ⊥
-none_some o u p q = let z : ◌≡◌ {A = ℕ} 0 1 = cc in omega arith
+none_some o u p q = none-some u (sym p ∙ q)
 
 some_one : (o : Option ℕ) (u w : ℕ) → o ≡ Some u → o ≡ Some w → u ≡ w
-some_one o u w p q = cc
+some_one o u w p q = same_Some u w (sym p ∙ q)
 
 -- the trees of a text are one, so what is computed of them is one
 same_length : (t : List ℕ) (labels : Labels) (p q : PathTree) → Sound t p → Sound t q → length_of labels p ≡ length_of labels q

@@ -6,7 +6,7 @@ ghost use Rattle.model.specs.Limits.{most_parts};
 ghost use Rattle.names.specs.Held.{fault_of, labels_of};
 ghost use Rattle.table.specs.declared.part.Part.{Part};
 ghost use Rattle.query.specs.declared.QueryFault.{QueryFault};
-ghost use Rattle.query.specs.declared.QueryFault.TheVariants.{BadSheet as BadSheetFault};
+ghost use Rattle.query.specs.declared.QueryFault.TheVariants.{BadSheet};
 ghost use Rattle.query.specs.declared.QuerySize.{QuerySize};
 ghost use Rattle.query.specs.Answers.{Answered, steps_of};
 ghost use Rattle.query.specs.Compiled.{CompiledAs, CompiledWith, ReadsAsWritten};
@@ -87,7 +87,7 @@ impl Described for QueryFault {
 }
 
 impl From<NamesFault> for QueryFault {
-    ghost from_gives = { λ f e. e ≡ BadSheetFault f };
+    ghost from_gives = { λ f e. e ≡ BadSheet f };
 
     fn from(fault: NamesFault) -> QueryFault {
         QueryFault::BadSheet(fault)
