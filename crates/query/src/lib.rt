@@ -1,4 +1,4 @@
-// Query texts: one is compiled into a table of parts, or refused by a fault that names what is wrong.
+// Query texts: one is read into a table of parts, or refused by a fault that names what is wrong.
 #![tactic(auto)]
 
 ghost use Rattle.std.specs.Prelude.{◌≡◌, ℕ, ◌≤◌, List, length, Result};
@@ -194,7 +194,7 @@ pub fn fitting_is_accepted() -> u8
     0
 }
 
-// A theorem, with nothing to compute: whatever parts are all of a table's, they give, taken one by one, the formula of the one query that they read as.
+// A theorem, with nothing to compute: whatever parts they are, taken one by one they give the formula of the one query that they read as.
 pub fn table_reads_as_formula() -> u8
     ensures { TablesPartByPart }
 {
