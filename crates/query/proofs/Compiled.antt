@@ -46,4 +46,4 @@ pub record Exactly (t : List ℕ) (labels : Labels) (old new : List Part) (r : R
   pub written : ReadsAsWritten t labels new r
 
 pub exactly : (t : List ℕ) (labels : Labels) (old new : List Part) (r : Result ℕ QueryFault) → CompiledAs t labels old new r → Exactly t labels old new r
-exactly t labels old new r a = record { answers = a; only = λ other new' x. one_compiled t labels old new' new other r x a; written = reads_as_written t labels old new r a }
+exactly t labels old new r a = record { answers = a; only = one_compiled t labels old new r a; written = reads_as_written t labels old new r a }

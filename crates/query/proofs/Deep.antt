@@ -1,6 +1,6 @@
 -- Deep: the draft of a text notes the first "[" or "(" that is one too many.
-use Rattle.std.proofs.Common.{◌≡◌, ℕ, zero, suc, ◌+◌, ◌-◌, ◌<◌, ◌≤◌, Bool, true, false, cond, eqb, ltb, leb, List, [], ◌∷◌, ◌++◌, length, set, Some, None, codes, Option, sym, refl, ap, ◌∙◌, ⊎_elim, append_assoc, append-nil, arith}
-use Rattle.std.proofs.lemmas.Bool.{lt-ltb, le-ltb, le-leb, lt-leb, cases_lt, ne_eqb, false≢true, and_parts, or_left}
+use Rattle.std.proofs.Common.{◌≡◌, ℕ, zero, suc, ◌+◌, ◌-◌, ◌<◌, ◌≤◌, Bool, true, false, cond, eqb, ltb, leb, List, [], ◌∷◌, ◌++◌, length, Some, None, codes, Option, sym, refl, ap, ◌∙◌, ⊎_elim, append_assoc, append-nil, arith}
+use Rattle.std.proofs.lemmas.Bool.{cond_both, lt-ltb, le-ltb, le-leb, lt-leb, cases_lt, ne_eqb, false≢true, and_parts, or_left}
 use Rattle.model.specs.declared.axis.Axis.{Axis}
 use Rattle.model.specs.declared.axis.Axis.TheVariants.{Itself, Child, Parent, Descendant, Ancestor, DescendantOrSelf, AncestorOrSelf, FollowingSibling, PrecedingSibling, Following, Preceding}
 use Rattle.model.specs.Limits.{most_open, most_parts}
@@ -93,11 +93,7 @@ abbrev found : Draft → List ℕ → Option ℕ
 found d t = or_else d.deep (deep_left d.depth t)
 
 added_found : (p : Part) (d : Draft) (t : List ℕ) → found (added p d) t ≡ found d t
-added_found p d t = by (ltb d.used most_parts)
-  where
-    by : (b : Bool) → found (cond b (record { parts = set d.parts d.used p; used = d.used + 1; count = d.count; unknown = d.unknown; depth = d.depth; deep = d.deep }) d) t ≡ found d t
-    by true = refl
-    by false = refl
+added_found p d t = cond_both (ltb d.used most_parts) _ d (λ (e : Draft). found e t ≡ found d t) (λ h. refl) (λ h. refl)
 
 noted_first : (o u : Option ℕ) (left : ℕ) → or_else (first_of o left) u ≡ or_else o (Some left)
 noted_first None u left = refl

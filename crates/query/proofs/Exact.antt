@@ -1,5 +1,6 @@
 -- Exact: a text that fits is refused by nothing, a refused text by one fault alone, and a text has one answer.
 use Rattle.std.proofs.Common.{◌≡◌, ℕ, ◌-◌, List, length, Some, None, Ok, Err, Option, Result, sym, refl, ap, ◌∙◌, arith}
+use Rattle.std.proofs.lemmas.Option.{none-some, same_Some}
 use Rattle.model.specs.Grammar.{PathTree, Query}
 use Rattle.grammar.proofs.Stopping.{one_place}
 use Rattle.grammar.proofs.Unique.{unambiguous}
@@ -14,10 +15,10 @@ use Rattle.query.specs.Theorems.{FittingIsAccepted, OneFault}
 
 -- an option is not both
 none_some : (o : Option ℕ) (u : ℕ) → o ≡ None → o ≡ Some u → ⊥
-none_some o u p q = let z : ◌≡◌ {A = ℕ} 0 1 = cc in omega arith
+none_some o u p q = none-some u (sym p ∙ q)
 
 some_one : (o : Option ℕ) (u w : ℕ) → o ≡ Some u → o ≡ Some w → u ≡ w
-some_one o u w p q = cc
+some_one o u w p q = same_Some u w (sym p ∙ q)
 
 -- the trees of a text are one, so what is computed of them is one
 same_length : (t : List ℕ) (labels : Labels) (p q : PathTree) → Sound t p → Sound t q → length_of labels p ≡ length_of labels q
@@ -83,11 +84,11 @@ one_fault t labels n ShortTable (UnknownName q) r s = absurd (none_some (unknown
 one_fault t labels n ShortTable ShortTable r s = refl
 
 -- what is judged of a text, whatever the table then holds
-abbrev pub Judged : List ℕ → Labels → ℕ → Result ℕ QueryFault → Type 0
+abbrev Judged : List ℕ → Labels → ℕ → Result ℕ QueryFault → Type 0
 Judged t labels n (Ok l) = (k : Fits t labels n) × (l ≡ length_of labels k.tree)
 Judged t labels n (Err f) = Refused t labels n f
 
-pub one_judgement : (t : List ℕ) (labels : Labels) (n : ℕ) (a b : Result ℕ QueryFault) → Judged t labels n a → Judged t labels n b → a ≡ b
+one_judgement : (t : List ℕ) (labels : Labels) (n : ℕ) (a b : Result ℕ QueryFault) → Judged t labels n a → Judged t labels n b → a ≡ b
 one_judgement t labels n (Ok l) (Ok m) x y = ap Ok (x.1 ∙ same_length t labels x.0.tree y.0.tree x.0.sound y.0.sound ∙ sym y.1)
 one_judgement t labels n (Ok l) (Err f) x y = absurd (fitting_is_accepted t labels n x.0 f y)
 one_judgement t labels n (Err f) (Ok m) x y = absurd (fitting_is_accepted t labels n y.0 f x)
@@ -101,9 +102,9 @@ compiled_judged : (t : List ℕ) (labels : Labels) (old new : List Part) (r : Re
 compiled_judged t labels old new (Ok l) a = (a.fits, a.length_is)
 compiled_judged t labels old new (Err f) a = a.1
 
--- No two answers to a text differ but in their places, and no two of compiling it.
-pub one_answer : (t : List ℕ) (labels : Labels) (old new new' : List Part) (a b : Result QuerySize QueryFault) → Answered t labels old new a → Answered t labels old new' b → steps_of a ≡ steps_of b
-one_answer t labels old new new' a b x y = one_judgement t labels (length old) (steps_of a) (steps_of b) (answered_judged t labels old new a x) (answered_judged t labels old new' b y)
+-- No other answer to a text differs but in its places, and none of compiling it.
+pub one_answer : (t : List ℕ) (labels : Labels) (old new : List Part) (r : Result QuerySize QueryFault) → Answered t labels old new r → (other : Result QuerySize QueryFault) (new' : List Part) → Answered t labels old new' other → steps_of other ≡ steps_of r
+one_answer t labels old new r a other new' x = one_judgement t labels (length old) (steps_of other) (steps_of r) (answered_judged t labels old new' other x) (answered_judged t labels old new r a)
 
-pub one_compiled : (t : List ℕ) (labels : Labels) (old new new' : List Part) (a b : Result ℕ QueryFault) → CompiledAs t labels old new a → CompiledAs t labels old new' b → a ≡ b
-one_compiled t labels old new new' a b x y = one_judgement t labels (length old) a b (compiled_judged t labels old new a x) (compiled_judged t labels old new' b y)
+pub one_compiled : (t : List ℕ) (labels : Labels) (old new : List Part) (r : Result ℕ QueryFault) → CompiledAs t labels old new r → (other : Result ℕ QueryFault) (new' : List Part) → CompiledAs t labels old new' other → other ≡ r
+one_compiled t labels old new r a other new' x = one_judgement t labels (length old) other r (compiled_judged t labels old new' other x) (compiled_judged t labels old new r a)

@@ -1,5 +1,6 @@
 -- Known: where every name of a tree has a label, the labels are ones that elements can have.
-use Rattle.std.proofs.Common.{◌≡◌, ℕ, Bool, true, false, cond, leb, List, [], ◌∷◌, ◌++◌, length, is_some, Some, None, codes, Option, refl, arith}
+use Rattle.std.proofs.Common.{◌≡◌, ℕ, Bool, true, false, cond, leb, List, [], ◌∷◌, ◌++◌, length, is_some, Some, None, codes, Option, sym, refl}
+use Rattle.std.proofs.lemmas.Option.{none-some}
 use Rattle.std.proofs.lemmas.Bool.{and_from, le-leb, false≢true}
 use Rattle.model.specs.Limits.{most_label}
 use Rattle.model.specs.Query.{named}
@@ -7,9 +8,6 @@ use Rattle.model.specs.Grammar.{TestTree, star, name, PathTree, StepTree, OrChai
 use Rattle.names.specs.Labels.{Labels, InRange}
 use Rattle.table.specs.Lawful.{test_labelled, path_labelled, step_labelled, filter_labelled}
 use Rattle.query.specs.Answers.{test_names, path_names, step_names, or_names, and_names, atom_names, first_unknown, or_zero}
-
-never : (x : ℕ) → Some x ≡ None → ⊥
-never x e = let z : ◌≡◌ {A = ℕ} 0 1 = cc in omega arith
 
 module _ (labels : Labels) (ranged : (n : List ℕ) → InRange (labels n)) where
   abbrev label : List ℕ → ℕ
@@ -21,11 +19,11 @@ module _ (labels : Labels) (ranged : (n : List ℕ) → InRange (labels n)) wher
     where
       by : (b : Bool) → (first_unknown labels (ns ++ ms) ≡ None → (first_unknown labels ns ≡ None) × (first_unknown labels ms ≡ None)) → cond b (first_unknown labels (ns ++ ms)) (Some (length n.1)) ≡ None → (cond b (first_unknown labels ns) (Some (length n.1)) ≡ None) × (first_unknown labels ms ≡ None)
       by true f k = f k
-      by false f k = absurd (never _ k)
+      by false f k = absurd (none-some _ (sym k))
 
   name_known : (b : Bool) (n : ℕ) → cond b None (Some n) ≡ None → b ≡ true
   name_known true n e = refl
-  name_known false n e = absurd (never _ e)
+  name_known false n e = absurd (none-some _ (sym e))
 
   in_range : (o : Option ℕ) → InRange o → is_some o ≡ true → test_labelled (named (or_zero o)) ≡ true
   in_range None r e = absurd (false≢true e)

@@ -1,6 +1,6 @@
 -- Noted: what a draft counts is the length of the tree, up to the most, and it notes the first unknown name.
-use Rattle.std.proofs.Common.{◌≡◌, ℕ, ◌+◌, ◌<◌, ◌≤◌, Bool, true, false, cond, ltb, List, [], ◌∷◌, ◌++◌, length, set, is_some, Some, None, codes, Option, sym, refl, ap, ◌∙◌, ⊎_elim, arith}
-use Rattle.std.proofs.lemmas.Bool.{le-leb, lt-leb, cases_lt}
+use Rattle.std.proofs.Common.{◌≡◌, ℕ, ◌+◌, ◌<◌, ◌≤◌, Bool, true, false, cond, ltb, List, [], ◌∷◌, ◌++◌, length, is_some, Some, None, codes, Option, sym, refl, ap, ◌∙◌, ⊎_elim, arith}
+use Rattle.std.proofs.lemmas.Bool.{cond_both, le-leb, lt-leb, cases_lt}
 use Rattle.model.specs.Receipt.{or_else}
 use Rattle.model.specs.Limits.{most_length, most_parts}
 use Rattle.model.specs.Query.{path_length, step_length, filter_length}
@@ -14,19 +14,12 @@ use Rattle.reader.specs.Drafts.{part, added, counted, first_of, entered, exited,
 use Rattle.query.specs.Answers.{test_names, path_names, step_names, or_names, and_names, atom_names, first_unknown}
 use Rattle.query.proofs.Built.{label}
 
+-- A part more changes neither the count nor the note.
 added_count : (p : Part) (d : Draft) → (added p d).count ≡ d.count
-added_count p d = by (ltb d.used most_parts)
-  where
-    by : (b : Bool) → (cond b (record { parts = set d.parts d.used p; used = d.used + 1; count = d.count; unknown = d.unknown; depth = d.depth; deep = d.deep }) d).count ≡ d.count
-    by true = refl
-    by false = refl
+added_count p d = cond_both (ltb d.used most_parts) _ d (λ (e : Draft). e.count ≡ d.count) (λ h. refl) (λ h. refl)
 
 added_unknown : (p : Part) (d : Draft) → (added p d).unknown ≡ d.unknown
-added_unknown p d = by (ltb d.used most_parts)
-  where
-    by : (b : Bool) → (cond b (record { parts = set d.parts d.used p; used = d.used + 1; count = d.count; unknown = d.unknown; depth = d.depth; deep = d.deep }) d).unknown ≡ d.unknown
-    by true = refl
-    by false = refl
+added_unknown p d = cond_both (ltb d.used most_parts) _ d (λ (e : Draft). e.unknown ≡ d.unknown) (λ h. refl) (λ h. refl)
 
 pub or_none : (o : Option ℕ) → o ≡ or_else o None
 or_none None = refl

@@ -1,4 +1,4 @@
-// Query texts: one is compiled into a table of parts, or refused by a fault that names what is wrong.
+// Query texts: one is read into a table of parts, or refused by a fault that names what is wrong.
 #![tactic(auto)]
 
 ghost use Rattle.std.specs.Prelude.{◌≡◌, ℕ, ◌≤◌, List, length, Result};
@@ -6,7 +6,7 @@ ghost use Rattle.model.specs.Limits.{most_parts};
 ghost use Rattle.names.specs.Held.{fault_of, labels_of};
 ghost use Rattle.table.specs.declared.part.Part.{Part};
 ghost use Rattle.query.specs.declared.QueryFault.{QueryFault};
-ghost use Rattle.query.specs.declared.QueryFault.TheVariants.{BadSheet as BadSheetFault};
+ghost use Rattle.query.specs.declared.QueryFault.TheVariants.{BadSheet};
 ghost use Rattle.query.specs.declared.QuerySize.{QuerySize};
 ghost use Rattle.query.specs.Answers.{Answered, steps_of};
 ghost use Rattle.query.specs.Compiled.{CompiledAs, CompiledWith, ReadsAsWritten};
@@ -87,7 +87,7 @@ impl Described for QueryFault {
 }
 
 impl From<NamesFault> for QueryFault {
-    ghost from_gives = { λ f e. e ≡ BadSheetFault f };
+    ghost from_gives = { λ f e. e ≡ BadSheet f };
 
     fn from(fault: NamesFault) -> QueryFault {
         QueryFault::BadSheet(fault)
@@ -194,7 +194,7 @@ pub fn fitting_is_accepted() -> u8
     0
 }
 
-// A theorem, with nothing to compute: whatever parts are all of a table's, they give, taken one by one, the formula of the one query that they read as.
+// A theorem, with nothing to compute: whatever parts they are, taken one by one they give the formula of the one query that they read as.
 pub fn table_reads_as_formula() -> u8
     ensures { TablesPartByPart }
 {

@@ -3,11 +3,11 @@
 
 #[cfg(test)]
 mod tests {
-    use query::{QueryFault, compile};
     use model::axis::Axis;
-    use names::lookup::Naming;
+    use names::lookup::{Naming, Unchecked};
     use names::sheet::Sheet;
-    use names::{NamesFault, check as check_sheet};
+    use names::{NamesFault, check as check_sheet, label};
+    use query::{QueryFault, QuerySize, compile, read};
     use std::process::Abort;
     use std::test::Fail;
     use table::CheckedQuery;
@@ -16,36 +16,59 @@ mod tests {
     // A sheet with five names.
     const SHEET: &[u8] = b"a\nb\nc\nline\nproduct\n";
 
+    const EMPTY: Part = Part {
+        tag: Tag::Any,
+        first: 0,
+        second: 0,
+    };
+
     const OTHER: Part = Part {
         tag: Tag::Any,
         first: 9,
         second: 9,
     };
 
-    // The outcome of a text, with so many places in the table, at most 110.
-    fn outcome(text: &[u8], places: usize) -> Result<usize, QueryFault> {
-        let mut table = [OTHER; 110];
-        let sheet = Sheet::read(SHEET);
-        if places <= 110 {
-            compile(text, &sheet, &mut table[..places])
-        } else {
-            compile(text, &sheet, &mut table)
-        }
+    fn part(tag: Tag, first: usize, second: usize) -> Part {
+        Part { tag, first, second }
     }
 
-    fn is_ok(rt: &impl Abort, text: &[u8], length: usize) {
-        assert_eq!(rt; outcome(text, 110), Ok(length));
+    // The answer to a text that is read, with so many places in the table, at most 110.
+    fn outcome(text: &[u8], places: usize) -> Result<QuerySize, QueryFault> {
+        let mut table = [EMPTY; 110];
+        read(text, &Unchecked(SHEET), &mut table[..places.min(110)])
+    }
+
+    // The same where the text is compiled.
+    fn compiled(text: &[u8], places: usize) -> Result<usize, QueryFault> {
+        let mut table = [OTHER; 110];
+        compile(text, &Sheet::read(SHEET), &mut table[..places.min(110)])
+    }
+
+    // With so much room the text is accepted, and has this size.
+    fn fits(rt: &impl Abort, text: &[u8], room: usize, size: QuerySize) {
+        assert_eq!(rt; outcome(text, room), Ok(size));
+        assert_eq!(rt; compiled(text, room), Ok(size.steps));
+    }
+
+    fn is_ok(rt: &impl Abort, text: &[u8], steps: usize, places: usize) {
+        fits(rt, text, 110, QuerySize { steps, places });
+    }
+
+    // With so much room the text is refused.
+    fn refused(rt: &impl Abort, text: &[u8], room: usize, fault: QueryFault) {
+        assert_eq!(rt; outcome(text, room), Err(fault));
+        assert_eq!(rt; compiled(text, room), Err(fault));
     }
 
     fn breaks(rt: &impl Abort, text: &[u8], place: usize) {
-        assert_eq!(rt; outcome(text, 110), Err(QueryFault::Broken(place)));
+        refused(rt, text, 110, QueryFault::Broken(place));
     }
 
     #[test]
     fn sizes(rt: HostRuntime) {
-        assert_eq!(rt; outcome(b"", 110), Err(QueryFault::BadSize));
-        assert_eq!(rt; outcome(&[b'/'; 512], 110), Err(QueryFault::Broken(1)));
-        assert_eq!(rt; outcome(&[b'/'; 513], 110), Err(QueryFault::BadSize));
+        refused(&rt, b"", 110, QueryFault::BadSize);
+        refused(&rt, &[b'/'; 512], 110, QueryFault::Broken(1));
+        refused(&rt, &[b'/'; 513], 110, QueryFault::BadSize);
     }
 
     #[test]
@@ -56,24 +79,30 @@ mod tests {
 
     #[test]
     fn names(rt: HostRuntime) {
-        assert_eq!(rt;
-            outcome(b"/child::abcdefghijklmnopqrstuvwx", 110),
-            Err(QueryFault::UnknownName(8))
+        refused(
+            &rt,
+            b"/child::abcdefghijklmnopqrstuvwx",
+            110,
+            QueryFault::UnknownName(8),
         );
         breaks(&rt, b"/child::abcdefghijklmnopqrstuvwxy", 32);
-        assert_eq!(rt;
-            outcome(b"/child::a/child::d[child::e]", 110),
-            Err(QueryFault::UnknownName(17))
+        refused(
+            &rt,
+            b"/child::a/child::d[child::e]",
+            110,
+            QueryFault::UnknownName(17),
         );
         breaks(&rt, b"/child::d/child::", 17);
     }
 
     #[test]
     fn depths(rt: HostRuntime) {
-        is_ok(&rt, b"/child::a[(((((((child::b)))))))]", 2);
-        assert_eq!(rt;
-            outcome(b"/child::a[((((((((child::b))))))))]", 110),
-            Err(QueryFault::TooDeep(17))
+        is_ok(&rt, b"/child::a[(((((((child::b)))))))]", 2, 6);
+        refused(
+            &rt,
+            b"/child::a[((((((((child::b))))))))]",
+            110,
+            QueryFault::TooDeep(17),
         );
         breaks(&rt, b"/child::a[((((((((child::b)))))))]", 33);
     }
@@ -82,10 +111,18 @@ mod tests {
     fn lengths(rt: HostRuntime) {
         let text =
             b"/self::a/self::a/self::a/self::a/self::a/self::a/self::a/self::a/self::a/self::a/self::a/self::a/self::a/self::a/self::a/self::a/self::a";
-        is_ok(&rt, &text[..128], 16);
-        assert_eq!(rt; outcome(text, 110), Err(QueryFault::TooLong));
-        assert_eq!(rt; outcome(&text[..128], 97), Ok(16));
-        assert_eq!(rt; outcome(&text[..128], 96), Err(QueryFault::ShortTable));
+        is_ok(&rt, &text[..128], 16, 33);
+        refused(&rt, text, 110, QueryFault::TooLong);
+        fits(
+            &rt,
+            &text[..128],
+            97,
+            QuerySize {
+                steps: 16,
+                places: 33,
+            },
+        );
+        refused(&rt, &text[..128], 96, QueryFault::ShortTable);
     }
 
     #[test]
@@ -117,16 +154,33 @@ mod tests {
         breaks(&rt, b"/previous", 4);
     }
 
-    // `and` binds tighter than `or`; the whole table is handed on, and what stands past the query counts for nothing.
+    // `and` binds tighter than `or`, and each joins from the left.
     #[test]
     fn grouping(rt: HostRuntime) -> Result<(), Fail> {
+        let size = QuerySize {
+            steps: 6,
+            places: 12,
+        };
+        let names = Unchecked(SHEET);
+        let mut table = [EMPTY; 110];
+        let text = b"/self::a[self::a or self::b and self::c]";
+        assert_eq!(rt; read(text, &names, &mut table)?, size);
+        assert_eq!(rt; table[8], part(Tag::And, 5, 7));
+        assert_eq!(rt; table[9], part(Tag::Or, 3, 8));
+        assert_eq!(rt; table[12], EMPTY);
+        let text = b"/self::a[self::a or self::b or self::c]";
+        assert_eq!(rt; read(text, &names, &mut table)?, size);
+        assert_eq!(rt; table[6], part(Tag::Or, 3, 5));
+        assert_eq!(rt; table[9], part(Tag::Or, 6, 8));
+        grouping_compiled(&rt)
+    }
+
+    // The whole table is handed on, and what stands past the query counts for nothing.
+    fn grouping_compiled(rt: &impl Abort) -> Result<(), Fail> {
         let mut table = [OTHER; 110];
         let sheet = Sheet::read(SHEET);
-        let length = compile(
-            b"/self::a[self::a or self::b and self::c]",
-            &sheet,
-            &mut table,
-        )?;
+        let text = b"/self::a[self::a or self::b and self::c]";
+        let length = compile(text, &sheet, &mut table)?;
         let query = CheckedQuery::over(&table);
         assert_eq!(rt; query.length(), length);
         assert!(rt; query.parts().len() == 12);
@@ -135,17 +189,10 @@ mod tests {
         assert_eq!(rt; query.parts()[9].tag, Tag::Or);
         assert_eq!(rt; query.parts()[9].second, 8);
         assert_eq!(rt; table[12], OTHER);
-        compile(
-            b"/self::a[self::a or self::b or self::c]",
-            &sheet,
-            &mut table,
-        )?;
+        let text = b"/self::a[self::a or self::b or self::c]";
+        compile(text, &sheet, &mut table)?;
         assert_eq!(rt; table[9].first, 6);
         Ok(())
-    }
-
-    fn part(tag: Tag, first: usize, second: usize) -> Part {
-        Part { tag, first, second }
     }
 
     // Parts that no text wrote: a chain of `and` over itself is too long, and a last part that is not there or no step is none.
@@ -179,61 +226,77 @@ mod tests {
             compile(b"", &Sheet::read(b"a\na\n"), &mut table),
             Err(QueryFault::BadSheet(NamesFault::Repeated(2)))
         );
-        assert_eq!(rt; outcome(&[b'['; 513], 0), Err(QueryFault::BadSize));
-        assert_eq!(rt;
-            outcome(b"/child::d[(((((((((self::a", 0),
-            Err(QueryFault::Broken(26))
+        refused(&rt, &[b'['; 513], 0, QueryFault::BadSize);
+        refused(
+            &rt,
+            b"/child::d[(((((((((self::a",
+            0,
+            QueryFault::Broken(26),
         );
-        assert_eq!(rt;
-            outcome(b"/child::d[((((((((child::b))))))))]", 0),
-            Err(QueryFault::TooDeep(17))
+        refused(
+            &rt,
+            b"/child::d[((((((((child::b))))))))]",
+            0,
+            QueryFault::TooDeep(17),
         );
-        assert_eq!(rt;
-            outcome(b"/child::a[child::d]", 12),
-            Err(QueryFault::UnknownName(17))
+        refused(&rt, b"/child::a[child::d]", 12, QueryFault::UnknownName(17));
+        refused(&rt, b"/child::a[child::b]", 12, QueryFault::ShortTable);
+        fits(
+            &rt,
+            b"/child::a[child::b]",
+            13,
+            QuerySize {
+                steps: 2,
+                places: 6,
+            },
         );
-        assert_eq!(rt;
-            outcome(b"/child::a[child::b]", 12),
-            Err(QueryFault::ShortTable)
-        );
-        assert_eq!(rt; outcome(b"/child::a[child::b]", 13), Ok(2));
     }
 
     #[test]
     fn too_long_before_unknown(rt: HostRuntime) {
         let text =
             b"/self::d/self::a/self::a/self::a/self::a/self::a/self::a/self::a/self::a/self::a/self::a/self::a/self::a/self::a/self::a/self::a/self::a";
-        assert_eq!(rt; outcome(text, 0), Err(QueryFault::TooLong));
-        assert_eq!(rt; outcome(&text[..128], 0), Err(QueryFault::UnknownName(7)));
+        refused(&rt, text, 0, QueryFault::TooLong);
+        refused(&rt, &text[..128], 0, QueryFault::UnknownName(7));
     }
 
     // Brackets count where they are open, not how many there are.
     #[test]
     fn brackets(rt: HostRuntime) {
-        is_ok(&rt, b"/self::a[((((self::b)))) and (((((self::c)))))]", 4);
+        is_ok(
+            &rt,
+            b"/self::a[((((self::b)))) and (((((self::c)))))]",
+            4,
+            9,
+        );
         is_ok(
             &rt,
             b"/self::a[not(not(not(not(not(not(not(self::b)))))))]",
             9,
+            13,
         );
-        assert_eq!(rt;
-            outcome(
-                b"/self::a[not(not(not(not(not(not(not(not(self::b))))))))]",
-                110,
-            ),
-            Err(QueryFault::TooDeep(40))
+        refused(
+            &rt,
+            b"/self::a[not(not(not(not(not(not(not(not(self::b))))))))]",
+            110,
+            QueryFault::TooDeep(40),
         );
     }
 
     // Eleven steps of 45 bytes and one of 17.
     #[test]
     fn longest_text(rt: HostRuntime) {
-        let sheet = Sheet::read(b"abcdefghijklmnopqrstuvwx\nabcdefghij\n");
+        let names = b"abcdefghijklmnopqrstuvwx\nabcdefghij\n";
         let text =
             b"/descendant-or-self::abcdefghijklmnopqrstuvwx/descendant-or-self::abcdefghijklmnopqrstuvwx/descendant-or-self::abcdefghijklmnopqrstuvwx/descendant-or-self::abcdefghijklmnopqrstuvwx/descendant-or-self::abcdefghijklmnopqrstuvwx/descendant-or-self::abcdefghijklmnopqrstuvwx/descendant-or-self::abcdefghijklmnopqrstuvwx/descendant-or-self::abcdefghijklmnopqrstuvwx/descendant-or-self::abcdefghijklmnopqrstuvwx/descendant-or-self::abcdefghijklmnopqrstuvwx/descendant-or-self::abcdefghijklmnopqrstuvwx/self::abcdefghij";
+        let size = QuerySize {
+            steps: 12,
+            places: 25,
+        };
         let mut table = [OTHER; 97];
         assert_eq!(rt; text.len(), 512);
-        assert_eq!(rt; compile(text, &sheet, &mut table), Ok(12));
+        assert_eq!(rt; read(text, &Unchecked(names), &mut table), Ok(size));
+        assert_eq!(rt; compile(text, &Sheet::read(names), &mut table), Ok(12));
     }
 
     #[test]
@@ -282,6 +345,10 @@ mod tests {
 
     #[test]
     fn labels(rt: HostRuntime) {
+        assert_eq!(rt; label(SHEET, b"a"), Some(1));
+        assert_eq!(rt; label(SHEET, b"product"), Some(5));
+        assert_eq!(rt; label(SHEET, b"prod"), None);
+        assert_eq!(rt; label(SHEET, b""), None);
         let sheet = Sheet::read(SHEET);
         assert_eq!(rt; sheet.label(b"a"), Some(1));
         assert_eq!(rt; sheet.label(b"product"), Some(5));

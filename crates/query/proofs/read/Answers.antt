@@ -15,7 +15,7 @@ returns-in_err-parse g c =
     let s : Sized t = record { some = search rules; few = omega arith } in
     let p = err_from_is_err_and c.from_residual.result c.from_residual.ensures.1 in
     let a : Answered t labels table table c.from_residual.result = rw (p.1, p.2) (refl, broken t labels (length table) c.in_err-parse.field-0.0 s c.in_err-parse.ensures) in
-    record { answers = a; only = λ other new x. one_answer t labels table new table other _ x a }
+    record { answers = a; only = one_answer t labels table table _ a }
 
 pub returns-in_err-limit : goal.returns-in_err-limit
 returns-in_err-limit g c =
@@ -27,7 +27,7 @@ returns-in_err-limit g c =
     let k : Tree t labels started d = from_start t labels c.start-draft.result d c.start-draft.ensures c.in_ok-parse.ensures in
     let p = err_from_is_err_and c.from_residual-in_err-limit.result c.from_residual-in_err-limit.ensures.1 in
     let a : Answered t labels table table c.from_residual-in_err-limit.result = rw (p.1, p.2) (refl, refused t labels (length table) d c.in_err-limit.field-0.0 s k c.in_err-limit.ensures) in
-    record { answers = a; only = λ other new x. one_answer t labels table new table other _ x a }
+    record { answers = a; only = one_answer t labels table table _ a }
 
 pub copy-requires : goal.copy-requires
 copy-requires g c =
@@ -46,4 +46,4 @@ returns g c =
     let d = c.parse.new.draft in
     let k : Tree t labels started d = from_start t labels c.start-draft.result d c.start-draft.ensures c.in_ok-parse.ensures in
     let a = accepted t labels table c.copy.new.table d s k c.in_ok-limit.ensures c.copy.ensures in
-    record { answers = a; only = λ other new x. one_answer t labels table new c.copy.new.table other (Ok (record { steps = d.count; places = d.used })) x a }
+    record { answers = a; only = one_answer t labels table c.copy.new.table (Ok (record { steps = d.count; places = d.used })) a }
