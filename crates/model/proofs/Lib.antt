@@ -2,6 +2,7 @@ pub mod Search
 pub mod Relatives
 pub mod Bounds
 pub mod Opening
+pub mod Lawfully
 pub mod Runs
 pub mod Rolls
 pub mod Calls

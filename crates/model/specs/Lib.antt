@@ -1,6 +1,5 @@
 pub mod Limits
 pub mod Receipt
-pub mod Rules
 pub mod Refusals
 pub mod Sentences
 pub mod Words

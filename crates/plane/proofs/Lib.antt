@@ -1,7 +1,6 @@
 pub mod Below
 pub mod Block
 pub mod Tree
-pub mod Lawfully
 pub mod Unchanged
 pub mod Steady
 pub mod Onward

@@ -8,7 +8,7 @@ use Rattle.model.specs.Axes.{leads}
 use Rattle.model.specs.Runs.{opening_fault, closing_fault, after_one, after}
 use Rattle.model.proofs.Opening.{count_more, element_old}
 use Rattle.plane.specs.Steady.{Continues, RelationsStay}
-use Rattle.plane.proofs.Lawfully.{empty_lawful, unless, opening_lawful, closing_lawful}
+use Rattle.model.proofs.Lawfully.{empty_lawful, unless, opening_lawful, closing_lawful}
 use Rattle.plane.proofs.Steady.{leads_opened, leads_closed, leads_new, leads_inverse, grows_opened, grows_closed, grows_ended, backward_never_grows}
 
 continues_same : (r : Receipt) → Lawful r → Continues r r

@@ -12,7 +12,7 @@ use Rattle.model.proofs.Opening.{level_old, level_new, parent_old, count_more}
 use Rattle.model.proofs.Relatives.{parent_some}
 use Rattle.plane.proofs.Below.{Below, parent_below, ancestor_is}
 use Rattle.plane.proofs.Block.{descends_is, follows_is, first_above, level_later}
-use Rattle.plane.proofs.Lawfully.{openable, opening_lawful, closing_lawful}
+use Rattle.model.proofs.Lawfully.{openable, opening_lawful, closing_lawful}
 use Rattle.plane.proofs.Unchanged.{Agree, leads_agrees, agree_closed}
 
 false_unless : (b : Bool) → (b ≡ true → ⊥) → b ≡ false

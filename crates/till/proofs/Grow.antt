@@ -3,14 +3,14 @@ use Rattle.std.proofs.Common.{◌≡◌, ℕ, ◌+◌, ◌<◌, List, [], ◌∷
 use lib.ListN.{get_or-append, length-map}
 use lib.Seq.{get_or-append_seam, map-set_same}
 use Rattle.std.proofs.lemmas.Bool.{cases_eq}
-use Rattle.std.proofs.lemmas.Bool.Decides.{nat_tests}
 use Rattle.std.proofs.lemmas.List.{map-append}
 use Rattle.model.specs.Receipt.{Element, Receipt, Lawful, count_of, innermost, last_inside, opened}
 use Rattle.model.specs.Runs.{opening_fault, unless_fault, answer}
 use Rattle.model.specs.declared.fault.ReceiptFault.{ReceiptFault}
 use Rattle.model.proofs.Relatives.{nearest_some}
 use Rattle.model.proofs.Search.{last_some}
-use Rattle.model.proofs.Opening.{parent_old, parent_new, prev_old, prev_new, first_at, first_else, first_of_new, next_at, next_else, next_of_new, opened_lawful}
+use Rattle.model.proofs.Opening.{parent_old, parent_new, prev_old, prev_new, first_at, first_else, first_of_new, next_at, next_else, next_of_new}
+use Rattle.model.proofs.Lawfully.{opening_lawful}
 use Rattle.till.specs.declared.link.Link.{Link}
 use Rattle.till.specs.Links.{unused, element, told, Fits, Linked, informed, attached, with_next, with_child}
 
@@ -120,9 +120,6 @@ pub accepts : {A : Type 0} (o : Option ReceiptFault) (v v' : A) → Ok v' ≡ an
 accepts None v v' e = refl
 accepts (Some f) v v' e = cc
 
-accepted_lawful : (r : Receipt) (label : ℕ) → Lawful r → opening_fault label r ≡ None → Lawful (opened r label)
-accepted_lawful r label l e = opened_lawful r label l (grind (arith, nat_tests)) (grind (arith, nat_tests)) (grind (arith, nat_tests)) (grind (arith, nat_tests)) (λ h. grind (arith, nat_tests))
-
 -- A refused action leaves the receipt as it is, an accepted one changes it.
 pub refused : {A : Type 0} (o : Option ReceiptFault) (v : A) (f : ReceiptFault) (r s : Receipt) → Err f ≡ answer o v → r ≡ unless_fault o s r
 refused None v f r s e = cc
@@ -138,7 +135,7 @@ pub grown : (ls ls' : List Link) (d label : ℕ) (u o : Option ℕ) → Lawful (
 grown ls ls' d label u o lawful linked none eu eo e =
     let q : ls' ≡ after ls d label = cc in
     let says : told ls' (d + 1) ≡ opened (told ls d) label = ap (λ x. told x (d + 1)) q ∙ tells ls d label in
-    record { lawful = subst Lawful (sym says) (accepted_lawful (told ls d) label lawful none); linked = subst (λ x. Linked x (d + 1)) (sym q) (linked_after ls d label linked); tells = says }
+    record { lawful = subst Lawful (sym says) (opening_lawful (told ls d) label lawful none); linked = subst (λ x. Linked x (d + 1)) (sym q) (linked_after ls d label linked); tells = says }
 
 -- A record that is neither the new one nor told of it is as it was.
 pub attached_else : (ls ls' : List Link) (i : ℕ) (l : Link) → ls' ≡ attached ls l → i < length ls → (l.parent ≡ Some i → ⊥) → (l.previous ≡ Some i → ⊥) → get_or ls' i unused ≡ get_or ls i unused

@@ -10,7 +10,7 @@ use Rattle.model.specs.Selection.{some_below, selects}
 use Rattle.model.specs.Verdict.{or_over, verdict}
 use Rattle.model.specs.Show.{listed}
 use Rattle.model.specs.Grammar.{TestTree, name, PathTree, one, slash, bare, held, OrChain, ands, atom, Atom, along, negate}
-use Rattle.plane.proofs.Lawfully.{empty_lawful}
+use Rattle.model.proofs.Lawfully.{empty_lawful}
 use Rattle.plane.proofs.Onward.{continues_run}
 use Rattle.grammar.proofs.Places.{breaks}
 use Rattle.worked.specs.Worked.{sale, WorkedReceipt}
