@@ -1,7 +1,8 @@
 -- Made: the query that a table reads as, by its last part and by what the parts count.
 use Rattle.std.proofs.Common.{◌≡◌, ℕ, ◌+◌, ◌-◌, ◌<◌, ◌≤◌, Bool, true, false, cond, ◌&&◌, leb, List, length, take, sym, refl, ap, ◌∙◌, ⊎_elim, arith, lit≤}
 use Rattle.std.proofs.lemmas.List.{length-take-le, take_all}
-use Rattle.std.proofs.lemmas.Bool.{and_from, and_parts, cases_Bool, cases_lt, cond-true, cond-false, le-leb, leb-true}
+use Rattle.std.specs.Bool.{then_some}
+use Rattle.std.proofs.lemmas.Bool.{leb-false, and_from, and_parts, cases_Bool, cases_lt, cond-true, cond-false, le-leb, leb-true}
 use Rattle.model.specs.Limits.{most_length, most_parts, places}
 use Rattle.model.specs.Query.{Path, path_length}
 use Rattle.table.specs.declared.part.Part.{Part}
@@ -9,7 +10,7 @@ use Rattle.table.specs.Reading.{itself, last_place, reading}
 use Rattle.table.specs.Formulas.{ends_in_step}
 use Rattle.table.specs.Lawful.{LawfulQuery, path_labelled, parts_in, fit, checked_reading, EveryTableIsLawful, PastTheQueryNothingCounts}
 use Rattle.table.specs.Lengths.{path_cost, piece_cost, cost_at, capped}
-use Rattle.table.specs.Held.{EndsAt, Fitting}
+use Rattle.table.specs.Held.{EndsAt, Fitting, Measured}
 use Rattle.table.proofs.Lawful.{path_sound, path_free, path_some}
 use Rattle.table.proofs.Whole.{whole_query, no_step, no_last, last_stays, reading_stays, step_stays}
 
@@ -62,17 +63,24 @@ module _ (table : List Part) where
       let k : n - 1 ≡ last_place table = omega (arith, e.number) in
       ap (cost_at table) k ∙ sym (ap piece_cost (whole_query table (omega (arith, e.number, e.within)) e.step))
 
-  pub measured : (n l : ℕ) → EndsAt table n → l ≡ capped (cost_at table (n - 1)) → l ≤ most_length → n ≤ places l → Fitting table n l
-  measured n l e c h k =
-      let w = whole_cost n e in
-      let s = path_sound q (omega arith) in
-      record { measured = omega (arith, s.0); short = h; labelled = s.1; few = k }
+  -- What the last part counts is the length of a lawful query, if it is small enough and the parts are few enough.
+  module _ (n l : ℕ) (e : EndsAt table n) (c : l ≡ capped (cost_at table (n - 1))) where
+    few_enough : l ≤ most_length → (b : Bool) → b ≡ leb n (places l) → Measured table n (then_some b l)
+    few_enough h true k =
+        let w = whole_cost n e in
+        let s = path_sound q (omega arith) in
+        record { measured = omega (arith, s.0); short = h; labelled = s.1; few = leb-true n (places l) (sym k) }
+    few_enough h false k = unfit (λ s b f. omega (arith, whole_cost n e, path_free q b, e.number, leb-false n (places l) (sym k)))
 
-  pub too_long : (n l : ℕ) → EndsAt table n → l ≡ capped (cost_at table (n - 1)) → most_length < l → checked_reading table ≡ itself
-  too_long n l e c h = unfit (λ s b f. omega (arith, whole_cost n e, path_free q b))
+    pub small : l ≤ most_length → Measured table n (then_some (leb n (places l)) l)
+    small h = few_enough h (leb n (places l)) refl
 
-  pub too_many : (n l : ℕ) → EndsAt table n → l ≡ capped (cost_at table (n - 1)) → l ≤ most_length → places l < n → checked_reading table ≡ itself
-  too_many n l e c h k = unfit (λ s b f. omega (arith, whole_cost n e, path_free q b, e.number))
+    too_long : most_length < l → (b : Bool) → b ≡ leb l most_length → Measured table n (then_some b l)
+    too_long h true k = absurd (omega (arith, leb-true l most_length (sym k)))
+    too_long h false k = unfit (λ s b f. omega (arith, whole_cost n e, path_free q b))
+
+    pub great : most_length < l → Measured table n (then_some (leb l most_length) l)
+    great h = too_long h (leb l most_length) refl
 
 -- Theorems over every table.
 itself_lawful : LawfulQuery itself
@@ -119,14 +127,14 @@ pub record Cut (parts : List Part) (l : ℕ) : Type 0 where
   pub labelled : path_labelled (reading parts) ≡ true
   pub few : length parts ≤ places l
 
-pub cut : (table : List Part) (n m l : ℕ) → m ≡ n → EndsAt table n → Fitting table n l → Cut (take m table) l
-cut table n m l e a f =
-    let k : last_place table < m = omega (arith, a.number) in
-    let r = reading_stays table m k (omega (arith, a.within)) in
-    let w : length (take m table) ≡ n = length-take-le m table (omega (arith, a.within)) ∙ e in
+pub cut : (table : List Part) (n l : ℕ) → EndsAt table n → Fitting table n l → Cut (take n table) l
+cut table n l a f =
+    let k : last_place table < n = omega (arith, a.number) in
+    let r = reading_stays table n k a.within in
+    let w = length-take-le n table a.within in
     record {
-      whole = omega (arith, last_stays table m (omega arith), w, a.number);
-      step = step_stays table m k ∙ a.step;
+      whole = omega (arith, last_stays table n (omega arith), w, a.number);
+      step = step_stays table n k ∙ a.step;
       measured = ap path_length r ∙ f.measured;
       labelled = ap path_labelled r ∙ f.labelled;
       few = omega (arith, w, f.few);

@@ -35,3 +35,8 @@ pub record Fitting (table : List Part) (n l : ℕ) : Type 0 where
 abbrev pub Measured : List Part → ℕ → Option ℕ → Type 0
 Measured table n (Some l) = Fitting table n l
 Measured table n None = checked_reading table ≡ itself
+
+-- a lawful query is read as the table is
+abbrev pub ReadAs : List Part → Option CheckedQuery → Type 0
+ReadAs table (Some q) = reads_as q ≡ checked_reading table
+ReadAs table None = checked_reading table ≡ itself

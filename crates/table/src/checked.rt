@@ -5,7 +5,7 @@ ghost use Rattle.model.specs.Query.{path_length};
 ghost use Rattle.table.specs.Reading.{itself as self_path, reading};
 ghost use Rattle.table.specs.Formulas.{PartByPart};
 ghost use Rattle.table.specs.Lawful.{LawfulQuery, checked_reading, EveryTableIsLawful, PastTheQueryNothingCounts};
-ghost use Rattle.table.specs.Held.{Ended, EndsAt, Fitting, Measured, parts_of, reads_as};
+ghost use Rattle.table.specs.Held.{Ended, Measured, ReadAs, parts_of, reads_as};
 
 use crate::CheckedQuery;
 use crate::measure::measure;
@@ -37,15 +37,9 @@ const ITSELF: [Part; 3] = [
 fn query_end(table: &[Part]) -> Option<usize>
     ensures { Ended table.now result }
 {
-    if table.len() == 0 {
-        return None;
-    }
-    let last = table[0].first;
-    if last >= table.len() || last >= MOST_PARTS {
-        return None;
-    }
-    match table[last].tag.sort() {
-        Sort::Query => Some(last + 1),
+    let last = table.first()?.first;
+    match table.get(last)?.tag.sort() {
+        Sort::Query if last < MOST_PARTS => Some(last + 1),
         _ => None,
     }
 }
@@ -56,10 +50,7 @@ fn lawful_length(table: &[Part], n: usize) -> Option<usize>
     ensures { Measured table.now n result }
 {
     let counted = measure(table, n);
-    if counted > MOST_LENGTH || n > 6 * counted + 1 {
-        return None;
-    }
-    Some(counted)
+    (counted <= MOST_LENGTH && n <= 6 * counted + 1).then_some(counted)
 }
 
 impl<'a> CheckedQuery<'a> {
@@ -72,16 +63,16 @@ impl<'a> CheckedQuery<'a> {
         }
     }
 
-    // The query of the first n parts, which are a lawful one's.
-    fn of_parts(table: &'a [Part], n: usize, query_length: usize) -> CheckedQuery<'a>
-        requires ends { EndsAt table.now n }
-        requires fits { Fitting table.now n query_length }
-        ensures { reads_as result ≡ reading table.now }
+    // The lawful query of a table, or none.
+    fn lawful(table: &'a [Part]) -> Option<CheckedQuery<'a>>
+        ensures { ReadAs table.now result }
     {
-        CheckedQuery {
-            parts: &table[0..n],
+        let n = query_end(table)?;
+        let query_length = lawful_length(table, n)?;
+        Some(CheckedQuery {
+            parts: &table[..n],
             query_length,
-        }
+        })
     }
 
     // The query of a table, whatever it holds: /self::* where its parts make no lawful one.
@@ -91,13 +82,7 @@ impl<'a> CheckedQuery<'a> {
         ensures every { EveryTableIsLawful }
         ensures past { PastTheQueryNothingCounts }
     {
-        let Some(n) = query_end(table) else {
-            return CheckedQuery::itself();
-        };
-        let Some(query_length) = lawful_length(table, n) else {
-            return CheckedQuery::itself();
-        };
-        CheckedQuery::of_parts(table, n, query_length)
+        CheckedQuery::lawful(table).unwrap_or(CheckedQuery::itself())
     }
 
     // The length of the query: its steps and each `and`, `or` and `not`.

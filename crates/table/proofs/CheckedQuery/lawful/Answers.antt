@@ -1,0 +1,16 @@
+use Rattle.std.proofs.Common.{◌∙◌, arith}
+use Rattle.table.proofs.Made.{cut, fits}
+use Rattle.table.proofs.Whole.{reading_stays}
+use Rattle.table.proofs.CheckedQuery.lawful.Goals as goal
+
+pub invariant_of-result : goal.invariant_of-result
+invariant_of-result c =
+    let f = c.in_ok-query_length.ensures in
+    let q = cut c.args.table.now c.in_ok-n.n c.in_ok-query_length.query_length c.in_ok-n.ensures f in
+    record { whole = q.whole; step = q.step; measured = q.measured; short = f.short; labelled = q.labelled; few = q.few }
+
+pub returns : goal.returns
+returns c =
+    let table = c.args.table.now in
+    let e = c.in_ok-n.ensures in
+    reading_stays table c.in_ok-n.n (omega (arith, e.number)) e.within ∙ fits table c.in_ok-n.n c.in_ok-query_length.query_length c.in_ok-query_length.ensures e.number
