@@ -19,17 +19,16 @@ const ITSELF: [Part; 3] = [
     Part {
         tag: Tag::First,
         first: 2,
-        second: 0,
+        ..Part::UNUSED
     },
     Part {
         tag: Tag::Any,
-        first: 0,
-        second: 0,
+        ..Part::UNUSED
     },
     Part {
         tag: Tag::Step(Axis::Itself),
         first: 1,
-        second: 0,
+        ..Part::UNUSED
     },
 ];
 
