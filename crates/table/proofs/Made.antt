@@ -1,8 +1,8 @@
 -- Made: the query that a table reads as, by its last part and by what the parts count.
-use Rattle.std.proofs.Common.{◌≡◌, ℕ, ◌+◌, ◌-◌, ◌<◌, ◌≤◌, Bool, true, false, cond, ◌&&◌, leb, List, length, take, sym, refl, ap, ◌∙◌, ⊎_elim, arith, lit≤}
+use Rattle.std.proofs.Common.{◌≡◌, ℕ, ◌+◌, ◌-◌, ◌<◌, ◌≤◌, Bool, true, false, cond, ◌&&◌, leb, List, length, take, sym, refl, ap, ◌∙◌, ⊎_elim, arith, lit≤, Option, Some, None}
 use Rattle.std.proofs.lemmas.List.{length-take-le, take_all}
 use Rattle.std.specs.Bool.{then_some}
-use Rattle.std.proofs.lemmas.Bool.{leb-false, and_from, and_parts, cases_Bool, cases_lt, cond-true, cond-false, le-leb, leb-true}
+use Rattle.std.proofs.lemmas.Bool.{leb-false, and_from, and_parts, cases_lt, cond-true, cond_both, le-leb, leb-true}
 use Rattle.model.specs.Limits.{most_length, most_parts, places}
 use Rattle.model.specs.Query.{Path, path_length}
 use Rattle.table.specs.declared.part.Part.{Part}
@@ -14,29 +14,25 @@ use Rattle.table.specs.Held.{EndsAt, Fitting, Measured}
 use Rattle.table.proofs.Lawful.{path_sound, path_free, path_some}
 use Rattle.table.proofs.Whole.{whole_query, no_step, no_last, last_stays, reading_stays, step_stays}
 
+then_some_both : (b : Bool) (l : ℕ) → (P : Option ℕ → Type 0) → (b ≡ true → P (Some l)) → (b ≡ false → P None) → P (then_some b l)
+then_some_both true l P f g = f refl
+then_some_both false l P f g = g refl
+
 module _ (table : List Part) where
   abbrev q : Path
   q = reading table
 
-  either_way : (b : Bool) (x : Path) → x ≡ itself → cond b x itself ≡ itself
-  either_way true x e = e
-  either_way false x e = refl
-
   pub stays_itself : q ≡ itself → checked_reading table ≡ itself
-  stays_itself = either_way (fit table) q
+  stays_itself e = cond_both (fit table) q itself (λ p. p ≡ itself) (λ _. e) (λ _. refl)
+
+  fit_parts : fit table ≡ true → (path_length q ≤ most_length) × (path_labelled q ≡ true) × (parts_in table ≤ places (path_length q))
+  fit_parts e =
+      let a = and_parts (leb (path_length q) most_length && path_labelled q) (leb (parts_in table) (places (path_length q))) e in
+      let b = and_parts (leb (path_length q) most_length) (path_labelled q) a.0 in
+      (leb-true (path_length q) most_length b.0, b.1, leb-true (parts_in table) (places (path_length q)) a.1)
 
   pub unfit : ((path_length q ≤ most_length) → path_labelled q ≡ true → parts_in table ≤ places (path_length q) → ⊥) → checked_reading table ≡ itself
-  unfit never = ⊎_elim (λ e. absurd (wrong e)) (λ e. cond-false (fit table) q itself e) (cases_Bool (fit table))
-    where
-      wrong : fit table ≡ true → ⊥
-      wrong e =
-          let a = and_parts (leb (path_length q) most_length && path_labelled q) (leb (parts_in table) (places (path_length q))) e in
-          let b = and_parts (leb (path_length q) most_length) (path_labelled q) a.0 in
-          never (leb-true (path_length q) most_length b.0) b.1 (leb-true (parts_in table) (places (path_length q)) a.1)
-
-  -- a last part that stands too far on
-  pub too_far : most_parts ≤ last_place table → checked_reading table ≡ itself
-  too_far h = unfit (λ s l f. omega arith)
+  unfit never = cond_both (fit table) q itself (λ p. p ≡ itself) (λ e. let a = fit_parts e in absurd (never a.0 a.1 a.2)) (λ _. refl)
 
   pub not_there : length table ≤ last_place table → checked_reading table ≡ itself
   not_there h = stays_itself (no_last table h)
@@ -65,40 +61,27 @@ module _ (table : List Part) where
 
   -- What the last part counts is the length of a lawful query, if it is small enough and the parts are few enough.
   module _ (n l : ℕ) (e : EndsAt table n) (c : l ≡ capped (cost_at table (n - 1))) where
-    few_enough : l ≤ most_length → (b : Bool) → b ≡ leb n (places l) → Measured table n (then_some b l)
-    few_enough h true k =
-        let w = whole_cost n e in
-        let s = path_sound q (omega arith) in
-        record { measured = omega (arith, s.0); short = h; labelled = s.1; few = leb-true n (places l) (sym k) }
-    few_enough h false k = unfit (λ s b f. omega (arith, whole_cost n e, path_free q b, e.number, leb-false n (places l) (sym k)))
-
     pub small : l ≤ most_length → Measured table n (then_some (leb n (places l)) l)
-    small h = few_enough h (leb n (places l)) refl
-
-    too_long : most_length < l → (b : Bool) → b ≡ leb l most_length → Measured table n (then_some b l)
-    too_long h true k = absurd (omega (arith, leb-true l most_length (sym k)))
-    too_long h false k = unfit (λ s b f. omega (arith, whole_cost n e, path_free q b))
+    small h = then_some_both (leb n (places l)) l (Measured table n) fitting (λ k. unfit (λ s b f. omega (arith, whole_cost n e, path_free q b, e.number, leb-false n (places l) k)))
+      where
+        fitting : leb n (places l) ≡ true → Fitting table n l
+        fitting k =
+            let w = whole_cost n e in
+            let s = path_sound q (omega arith) in
+            record { measured = omega (arith, s.0); short = h; labelled = s.1; few = leb-true n (places l) k }
 
     pub great : most_length < l → Measured table n (then_some (leb l most_length) l)
-    great h = too_long h (leb l most_length) refl
+    great h = then_some_both (leb l most_length) l (Measured table n) (λ k. absurd (omega (arith, leb-true l most_length k))) (λ k. unfit (λ s b f. omega (arith, whole_cost n e, path_free q b)))
 
 -- Theorems over every table.
 itself_lawful : LawfulQuery itself
 itself_lawful = record { some = lit≤ tt; short = lit≤ tt; labelled = refl }
 
-by_fit : (b : Bool) (x : Path) → (b ≡ true → LawfulQuery x) → LawfulQuery (cond b x itself)
-by_fit true x f = f refl
-by_fit false x f = itself_lawful
-
 pub every_table_is_lawful : EveryTableIsLawful
-every_table_is_lawful table = by_fit (fit table) (reading table) lawful
-  where
-    lawful : fit table ≡ true → LawfulQuery (reading table)
-    lawful e =
-        let q = reading table in
-        let a = and_parts (leb (path_length q) most_length && path_labelled q) (leb (parts_in table) (places (path_length q))) e in
-        let b = and_parts (leb (path_length q) most_length) (path_labelled q) a.0 in
-        record { some = path_some q; short = leb-true (path_length q) most_length b.0; labelled = b.1 }
+every_table_is_lawful table =
+    let q = reading table in
+    let lawful : fit table ≡ true → LawfulQuery q = λ e. let a = fit_parts table e in record { some = path_some q; short = a.0; labelled = a.1 } in
+    cond_both (fit table) q itself LawfulQuery lawful (λ _. itself_lawful)
 
 -- the cut to the query's parts reads as the table does, whether or not they are all there
 cut_reading : (table : List Part) → reading (take (parts_in table) table) ≡ reading table
