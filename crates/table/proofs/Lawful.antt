@@ -1,6 +1,6 @@
 -- A query counts at most the greatest length exactly if it is lawful, and then it counts its length.
 use Rattle.std.proofs.Common.{◌≡◌, ℕ, ◌≤◌, Bool, true, false, cond, refl, ap, arith}
-use Rattle.std.proofs.lemmas.Bool.{and_parts, and_from}
+use Rattle.std.proofs.lemmas.Bool.{and_parts, and_from, cond_both}
 use Rattle.model.specs.Limits.{most_length}
 use Rattle.model.specs.Query.{Test, any, named, Path, last, then, Step, plain, filtered, Filter, holds, both, either, negated, path_length, step_length, filter_length}
 use Rattle.table.specs.Lawful.{test_labelled, path_labelled, step_labelled, filter_labelled}
@@ -8,11 +8,7 @@ use Rattle.table.specs.Lengths.{too_much, test_cost, path_cost, step_cost, filte
 
 test_sound : (t : Test) → test_cost t ≤ most_length → (test_cost t ≡ 0) × (test_labelled t ≡ true)
 test_sound any h = (refl, refl)
-test_sound (named l) h = by (test_labelled (named l)) h
-  where
-    by : (b : Bool) → cond {A = ℕ} b 0 too_much ≤ most_length → (cond {A = ℕ} b 0 too_much ≡ 0) × (b ≡ true)
-    by true k = (refl, refl)
-    by false k = let z : ⊥ = omega arith in elim z [ ]
+test_sound (named l) h = cond_both (test_labelled (named l)) 0 too_much (λ c. c ≤ most_length → (c ≡ 0) × (test_labelled (named l) ≡ true)) (λ e _. (refl, e)) (λ _ k. absurd (omega arith)) h
 
 mutual
   pub path_sound : (q : Path) → path_cost q ≤ most_length → (path_length q ≡ path_cost q) × (path_labelled q ≡ true)

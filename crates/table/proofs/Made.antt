@@ -91,16 +91,13 @@ cut_reading table =
 cut_last : (table : List Part) → last_place (take (parts_in table) table) ≡ last_place table
 cut_last table = last_stays table (parts_in table) (omega arith)
 
-by_both : (q p : Path) (n m : ℕ) → q ≡ p → n ≡ m → cond ((leb (path_length q) most_length && path_labelled q) && leb (n + 1) (places (path_length q))) q itself ≡ cond ((leb (path_length p) most_length && path_labelled p) && leb (m + 1) (places (path_length p))) p itself
-by_both q p n m e k =
-    ap (λ (x : Path). cond ((leb (path_length x) most_length && path_labelled x) && leb (n + 1) (places (path_length x))) x itself) e ∙ ap (λ (y : ℕ). cond ((leb (path_length p) most_length && path_labelled p) && leb (y + 1) (places (path_length p))) p itself) k
-
 pub past_the_query_nothing_counts : PastTheQueryNothingCounts
 past_the_query_nothing_counts table other e =
     let n = parts_in table in
     let k : last_place other ≡ last_place table = sym (last_stays other n (omega arith)) ∙ ap last_place e ∙ cut_last table in
     let w : take (parts_in other) other ≡ take n table = ap (λ (x : ℕ). take (x + 1) other) k ∙ e in
-    by_both (reading other) (reading table) (last_place other) (last_place table) (sym (cut_reading other) ∙ ap reading w ∙ cut_reading table) k
+    let r : reading other ≡ reading table = sym (cut_reading other) ∙ ap reading w ∙ cut_reading table in
+    cc
 
 -- The query's parts alone are a checked query.
 pub record Cut (parts : List Part) (l : ℕ) : Type 0 where
