@@ -57,7 +57,7 @@ module _ (table : List Part) where
   whole_cost : (n : ℕ) → EndsAt table n → cost_at table (n - 1) ≡ path_cost q
   whole_cost n e =
       let k : n - 1 ≡ last_place table = omega (arith, e.number) in
-      ap (cost_at table) k ∙ sym (ap piece_cost (whole_query table (omega (arith, e.number, e.within)) e.step))
+      cc (k, whole_query table (omega (arith, e.number, e.within)) e.step)
 
   -- What the last part counts is the length of a lawful query, if it is small enough and the parts are few enough.
   module _ (n l : ℕ) (e : EndsAt table n) (c : l ≡ capped (cost_at table (n - 1))) where

@@ -27,12 +27,13 @@ by_tag (Step a) before j k = refl
 pub whole_query : (parts : List Part) → last_place parts < length parts → ends_in_step parts ≡ true → query (reading parts) ≡ piece_at (pieces parts) (last_place parts)
 whole_query parts h e =
     let n = last_place parts in
-    let p = piece_is parts n h in
-    ap (λ (x : Piece). query (query_of x)) p ∙ MatchBool-at_true _ _ e (by_tag (tag_at parts n) (pieces (take n parts)) (part_at parts n).first (part_at parts n).second) ∙ sym p
+    cc (piece_is parts n h, MatchBool-at_true _ _ e (by_tag (tag_at parts n) (pieces (take n parts)) (part_at parts n).first (part_at parts n).second))
 
 -- Where the last part is no step, or not there, the query is /self::*.
 pub no_step : (parts : List Part) → last_place parts < length parts → ends_in_step parts ≡ false → reading parts ≡ itself
-no_step parts h e = let n = last_place parts in ap query_of (piece_is parts n h) ∙ MatchBool-at_false _ _ e (by_tag (tag_at parts n) (pieces (take n parts)) (part_at parts n).first (part_at parts n).second)
+no_step parts h e =
+    let n = last_place parts in
+    cc (piece_is parts n h, MatchBool-at_false _ _ e (by_tag (tag_at parts n) (pieces (take n parts)) (part_at parts n).first (part_at parts n).second))
 
 pub no_last : (parts : List Part) → length parts ≤ last_place parts → reading parts ≡ itself
 no_last parts h = ap query_of (get_or_past (pieces parts) (last_place parts) begins (omega (arith, pieces_length [] parts)))
@@ -43,13 +44,13 @@ module _ (parts : List Part) (n : ℕ) where
   part_stays i h = get_or-take n parts i _ h
 
   pub last_stays : 0 < n → last_place (take n parts) ≡ last_place parts
-  last_stays h = ap (λ (p : Part). p.first) (part_stays 0 h)
+  last_stays h = cc (part_stays 0 h)
 
   pub reading_stays : last_place parts < n → n ≤ length parts → reading (take n parts) ≡ reading parts
-  reading_stays h l = ap (λ (j : ℕ). query_of (piece_at (pieces (take n parts)) j)) (last_stays (omega arith)) ∙ ap query_of (piece_stays parts n (last_place parts) h l)
+  reading_stays h l = cc (last_stays (omega arith), piece_stays parts n (last_place parts) h l)
 
   pub step_stays : last_place parts < n → ends_in_step (take n parts) ≡ ends_in_step parts
-  step_stays h = ap (λ (j : ℕ). is_query (sort_of (tag_at (take n parts) j))) (last_stays (omega arith)) ∙ ap (λ (p : Part). is_query (sort_of p.tag)) (part_stays (last_place parts) h)
+  step_stays h = cc (last_stays (omega arith), part_stays (last_place parts) h)
 
 -- A part that only says where a query starts can name the last part without changing what any part reads as.
 pub named_last : (table : List Part) (k : ℕ) → 0 < length table → piece_at (pieces table) 0 ≡ begins → reading (set table 0 (record { tag = First; first = k; second = 0 })) ≡ query_of (piece_at (pieces table) k)
