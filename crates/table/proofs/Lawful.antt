@@ -16,7 +16,7 @@ mutual
   path_sound (then s p) h =
       let a = step_sound s (omega arith) in
       let b = path_sound p (omega arith) in
-      (omega (arith, a.0, b.0), and_from (step_labelled s) (path_labelled p) a.1 b.1)
+      (omega arith, simp (a.1, b.1))
 
   step_sound : (s : Step) → step_cost s ≤ most_length → (step_length s ≡ step_cost s) × (step_labelled s ≡ true)
   step_sound (plain x t) h = let a = test_sound t (omega arith) in (omega (arith, a.0), a.1)
@@ -44,7 +44,7 @@ test_free (named l) e = ap (λ (b : Bool). cond {A = ℕ} b 0 too_much) e
 mutual
   pub path_free : (q : Path) → path_labelled q ≡ true → path_cost q ≡ path_length q
   path_free (last s) e = step_free s e
-  path_free (then s p) e = let k = and_parts (step_labelled s) (path_labelled p) e in omega (arith, step_free s k.0, path_free p k.1)
+  path_free (then s p) e = grind (arith, step_free s, path_free p, and_parts (step_labelled s) (path_labelled p) e)
 
   step_free : (s : Step) → step_labelled s ≡ true → step_cost s ≡ step_length s
   step_free (plain x t) e = omega (arith, test_free t e)

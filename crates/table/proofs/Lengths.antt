@@ -66,6 +66,6 @@ pub costed_more : (parts : List Part) (costs : List ℕ) (p : Part) (x : ℕ) �
 costed_more parts costs p x c next e =
     let i = length costs in
     let is : part_at parts i ≡ p = get_or_from_slice_get parts i p _ next in
-    let here : x ≡ capped (cost_at parts i) = e ∙ ap capped (sym (part_cost parts i (slice_get_within parts i p next) ∙ ap (λ (y : Part). tag_cost y.tag parts i y.first y.second) is)) in
+    let here : x ≡ capped (cost_at parts i) = cc (e, part_cost parts i (slice_get_within parts i p next), is) in
     let below : (j : ℕ) → j < i + 1 → slice_index (costs ++ (x ∷ [])) j ≡ capped (cost_at parts j) = below_more _ _ (λ k h. get_or_append_left costs (x ∷ []) _ k h ∙ c k h) (get_or_push costs x _ i refl ∙ here) in
     λ j h. below j (omega (arith, length_push costs x))

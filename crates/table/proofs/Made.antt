@@ -43,9 +43,9 @@ module _ (table : List Part) where
   pub fits : (n l : ℕ) → Fitting table n l → n ≡ parts_in table → q ≡ checked_reading table
   fits n l f e =
       let m = f.measured in
-      sym (cond-true (fit table) q itself (and_from (leb (path_length q) most_length && path_labelled q) (leb (parts_in table) (places (path_length q)))
-      (and_from (leb (path_length q) most_length) (path_labelled q) (le-leb (path_length q) most_length (omega (arith, f.short))) f.labelled)
-      (le-leb (parts_in table) (places (path_length q)) (omega (arith, f.few)))))
+      let short : leb (path_length q) most_length ≡ true = le-leb (path_length q) most_length (omega (arith, f.short)) in
+      let few : leb (parts_in table) (places (path_length q)) ≡ true = le-leb (parts_in table) (places (path_length q)) (omega (arith, f.few)) in
+      simp (short, f.labelled, few)
 
   -- Parts that read as a lawful query and are few enough hold it.
   pub holds : (p : Path) → q ≡ p → path_length p ≤ most_length → path_labelled p ≡ true → parts_in table ≤ places (path_length p) → checked_reading table ≡ p
