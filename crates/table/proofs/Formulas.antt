@@ -4,7 +4,7 @@ use Rattle.model.specs.declared.axis.Axis.{Axis}
 use Rattle.model.specs.Axes.{inverse}
 use Rattle.model.specs.Query.{Path, last, then}
 use Rattle.model.specs.Query as m
-use Rattle.model.specs.Verdict.{Formula, first, conj, disj, neg, along, path_formula, step_from, query_formula}
+use Rattle.model.specs.Verdict.{Formula, first, conj, neg, along, path_formula, step_from, query_formula}
 use Rattle.table.specs.declared.part.Part.{Part}
 use Rattle.table.specs.declared.part.Tag.{Tag}
 use Rattle.table.specs.declared.part.Tag.TheVariants.{First, Any, Named, Filtered, Then, Along, And, Or, Not, Step}

@@ -1,15 +1,16 @@
 -- Made: the query that a table reads as, by its last part and by what the parts count.
-use Rattle.std.proofs.Common.{◌≡◌, ℕ, ◌+◌, ◌-◌, ◌<◌, ◌≤◌, Bool, true, false, cond, ◌&&◌, leb, List, length, take, sym, refl, ap, ◌∙◌, ⊎_elim, arith, lit≤, Option, Some, None}
+use Rattle.std.proofs.Common.{◌≡◌, ℕ, ◌+◌, ◌-◌, ◌<◌, ◌≤◌, Bool, true, false, leb, List, length, take, sym, refl, ap, ◌∙◌, ⊎_elim, arith, lit≤, Option, Some, None}
 use Rattle.std.proofs.lemmas.List.{length-take-le, take_all}
 use Rattle.std.specs.Bool.{then_some}
-use Rattle.std.proofs.lemmas.Bool.{leb-false, and_from, and_parts, cases_lt, cond-true, cond_both, le-leb, leb-true}
-use Rattle.model.specs.Limits.{most_length, most_parts, places}
+use Rattle.std.proofs.lemmas.Bool.Decides.{nat_tests}
+use Rattle.std.proofs.lemmas.Bool.{leb-false, cases_lt, cond_both, le-leb, leb-true}
+use Rattle.model.specs.Limits.{most_length, places}
 use Rattle.model.specs.Query.{Path, path_length}
 use Rattle.table.specs.declared.part.Part.{Part}
 use Rattle.table.specs.Reading.{itself, last_place, reading}
 use Rattle.table.specs.Formulas.{ends_in_step}
 use Rattle.table.specs.Lawful.{LawfulQuery, path_labelled, parts_in, fit, checked_reading, EveryTableIsLawful, PastTheQueryNothingCounts}
-use Rattle.table.specs.Lengths.{path_cost, piece_cost, cost_at, capped}
+use Rattle.table.specs.Lengths.{path_cost, cost_at, capped}
 use Rattle.table.specs.Held.{EndsAt, Fitting, Measured}
 use Rattle.table.proofs.Lawful.{path_sound, path_free, path_some}
 use Rattle.table.proofs.Whole.{whole_query, no_step, no_last, last_stays, reading_stays, step_stays}
@@ -26,10 +27,7 @@ module _ (table : List Part) where
   stays_itself e = cond_both (fit table) q itself (λ p. p ≡ itself) (λ _. e) (λ _. refl)
 
   fit_parts : fit table ≡ true → (path_length q ≤ most_length) × (path_labelled q ≡ true) × (parts_in table ≤ places (path_length q))
-  fit_parts e =
-      let a = and_parts (leb (path_length q) most_length && path_labelled q) (leb (parts_in table) (places (path_length q))) e in
-      let b = and_parts (leb (path_length q) most_length) (path_labelled q) a.0 in
-      (leb-true (path_length q) most_length b.0, b.1, leb-true (parts_in table) (places (path_length q)) a.1)
+  fit_parts e = grind (arith, nat_tests)
 
   pub unfit : ((path_length q ≤ most_length) → path_labelled q ≡ true → parts_in table ≤ places (path_length q) → ⊥) → checked_reading table ≡ itself
   unfit never = cond_both (fit table) q itself (λ p. p ≡ itself) (λ e. let a = fit_parts e in absurd (never a.0 a.1 a.2)) (λ _. refl)

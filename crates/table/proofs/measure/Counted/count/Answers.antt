@@ -1,10 +1,5 @@
-use Rattle.std.proofs.Common.{length, arith}
-use Rattle.std.proofs.lemmas.Option.{slice_get_within}
 use Rattle.table.proofs.Lengths.{costed_more}
 use Rattle.table.proofs.measure.Counted.count.Goals as goal
-
-pub invariant_of-self-clause-within : goal.invariant_of-self-clause-within
-invariant_of-self-clause-within c = let s = c.args.self.now in omega (arith, slice_get_within s.parts.now (length s.costs.items) c.args.part c.requires.next)
 
 pub invariant_of-self-clause-costed : goal.invariant_of-self-clause-costed
 invariant_of-self-clause-costed c =
