@@ -1,9 +1,9 @@
 -- Made: the query that a table reads as, by its last part and by what the parts count.
-use Rattle.std.proofs.Common.{◌≡◌, ℕ, ◌+◌, ◌-◌, ◌<◌, ◌≤◌, Bool, true, false, leb, List, length, take, sym, refl, ap, ◌∙◌, ⊎_elim, arith, lit≤, Option, Some, None}
+use Rattle.std.proofs.Common.{◌≡◌, ◌&&◌, ℕ, ◌+◌, ◌-◌, ◌<◌, ◌≤◌, Bool, true, false, leb, List, length, take, sym, refl, ap, ◌∙◌, ⊎_elim, arith, lit≤, Option, Some, None}
 use Rattle.std.proofs.lemmas.List.{length-take-le, take_all}
 use Rattle.std.specs.Bool.{then_some}
 use Rattle.std.proofs.lemmas.Bool.Decides.{nat_tests}
-use Rattle.std.proofs.lemmas.Bool.{leb-false, cases_lt, cond_both, le-leb, leb-true}
+use Rattle.std.proofs.lemmas.Bool.{cases_lt, cond_both, le-leb}
 use Rattle.model.specs.Limits.{most_length, places}
 use Rattle.model.specs.Query.{Path, path_length}
 use Rattle.table.specs.declared.part.Part.{Part}
@@ -58,18 +58,18 @@ module _ (table : List Part) where
       cc (k, whole_query table (omega (arith, e.number, e.within)) e.step)
 
   -- What the last part counts is the length of a lawful query, if it is small enough and the parts are few enough.
-  module _ (n l : ℕ) (e : EndsAt table n) (c : l ≡ capped (cost_at table (n - 1))) where
-    pub small : l ≤ most_length → Measured table n (then_some (leb n (places l)) l)
-    small h = then_some_both (leb n (places l)) l (Measured table n) fitting (λ k. unfit (λ s b f. omega (arith, whole_cost n e, path_free q b, e.number, leb-false n (places l) k)))
-      where
-        fitting : leb n (places l) ≡ true → Fitting table n l
-        fitting k =
-            let w = whole_cost n e in
-            let s = path_sound q (omega arith) in
-            record { measured = omega (arith, s.0); short = h; labelled = s.1; few = leb-true n (places l) k }
+  pub measured : (n l : ℕ) → EndsAt table n → l ≡ capped (cost_at table (n - 1)) → Measured table n (then_some (leb l most_length && leb n (places l)) l)
+  measured n l e c = then_some_both (leb l most_length && leb n (places l)) l (Measured table n) fitting other
+    where
+      fitting : (leb l most_length && leb n (places l)) ≡ true → Fitting table n l
+      fitting k =
+          let w = whole_cost n e in
+          let a : l ≤ most_length = grind (arith, nat_tests) in
+          let s = path_sound q (omega arith) in
+          record { measured = omega (arith, s.0); short = a; labelled = s.1; few = grind (arith, nat_tests) }
 
-    pub great : most_length < l → Measured table n (then_some (leb l most_length) l)
-    great h = then_some_both (leb l most_length) l (Measured table n) (λ k. absurd (omega (arith, leb-true l most_length k))) (λ k. unfit (λ s b f. omega (arith, whole_cost n e, path_free q b)))
+      other : (leb l most_length && leb n (places l)) ≡ false → checked_reading table ≡ itself
+      other k = unfit (λ s b f. let w = whole_cost n e in let g = path_free q b in let m = e.number in grind (arith, nat_tests))
 
 -- Theorems over every table.
 itself_lawful : LawfulQuery itself

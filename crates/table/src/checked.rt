@@ -1,5 +1,5 @@
 // Reading a table as a query.
-ghost use Rattle.std.specs.Prelude.{◌≡◌, ◌+◌, ◌<◌, ◌≤◌, true, length, Some};
+ghost use Rattle.std.specs.Prelude.{◌≡◌, ◌+◌, ◌<◌, ◌≤◌, ◌&&◌, true, length, nat_le, Some};
 ghost use Rattle.model.specs.Limits.{most_length, most_parts, places};
 ghost use Rattle.model.specs.Query.{path_length};
 ghost use Rattle.table.specs.Reading.{itself as self_path, reading};
@@ -43,13 +43,20 @@ fn query_end(table: &[Part]) -> Option<usize>
     }
 }
 
+// Whether a lawful query may have this length and so many parts.
+fn allowed(length: usize, parts: usize) -> bool
+    ensures { result ≡ (nat_le length most_length && nat_le parts (places length)) }
+{
+    length <= MOST_LENGTH && parts <= 6 * length + 1
+}
+
 // The length of the lawful query that the first n parts make, or none.
 fn lawful_length(table: &[Part], n: usize) -> Option<usize>
     requires { Ended table.now (Some n) }
     ensures { Measured table.now n result }
 {
-    let counted = measure(table, n);
-    (counted <= MOST_LENGTH && n <= 6 * counted + 1).then_some(counted)
+    let length = measure(table, n);
+    allowed(length, n).then_some(length)
 }
 
 impl<'a> CheckedQuery<'a> {
