@@ -35,12 +35,6 @@ fn label_cost(label: usize) -> usize
     }
 }
 
-fn cap(cost: usize) -> usize
-    ensures { result ≡ capped cost }
-{
-    cost.min(TOO_MUCH)
-}
-
 // The first parts of a table, each with what it counts.
 #[derive(Drop)]
 struct Counted<'a> {
@@ -75,28 +69,22 @@ impl<'a> Counted<'a> {
     fn cost(&self, part: Part) -> usize
         ensures { result ≡ capped (tag_cost part.tag self.now.parts.now (array_vec_len self.now.costs) part.first part.second) }
     {
-        match part.tag {
+        let Part { tag, first, second } = part;
+        let cost = match tag {
             Tag::First | Tag::Any => 0,
-            Tag::Named => label_cost(part.first),
-            Tag::Filtered => {
-                let test = self.share(part.first, Role::Testing);
-                cap(test + self.share(part.second, Role::Filtering))
-            }
-            Tag::Then => {
-                let asked = self.share(part.first, Role::Asking);
-                cap(asked + self.share(part.second, Role::Going))
-            }
-            Tag::Along(_) => cap(1 + self.share(part.first, Role::Reaching)),
-            Tag::And | Tag::Or => {
-                let left = self.share(part.first, Role::Filtering);
-                cap(1 + left + self.share(part.second, Role::Filtering))
-            }
-            Tag::Not => cap(1 + self.share(part.first, Role::Filtering)),
-            Tag::Step(_) => {
-                let asked = self.share(part.first, Role::Asking);
-                cap(1 + asked + self.share(part.second, Role::Starting))
-            }
-        }
+            Tag::Named => label_cost(first),
+            Tag::Filtered => self.share(first, Role::Testing) + self.share(second, Role::Filtering),
+            Tag::Then => self.share(first, Role::Asking) + self.share(second, Role::Going),
+            Tag::Along(_) => 1 + self.share(first, Role::Reaching),
+            Tag::And | Tag::Or => 1
+                + self.share(first, Role::Filtering)
+                + self.share(second, Role::Filtering),
+            Tag::Not => 1 + self.share(first, Role::Filtering),
+            Tag::Step(_) => 1
+                + self.share(first, Role::Asking)
+                + self.share(second, Role::Starting),
+        };
+        cost.min(TOO_MUCH)
     }
 
     // Counts the next part.
