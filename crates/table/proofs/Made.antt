@@ -97,23 +97,13 @@ past_the_query_nothing_counts table other e =
     let r : reading other ≡ reading table = sym (cut_reading other) ∙ ap reading w ∙ cut_reading table in
     cc
 
--- The query's parts alone are a checked query.
-pub record Cut (parts : List Part) (l : ℕ) : Type 0 where
-  pub whole : last_place parts + 1 ≡ length parts
-  pub step : ends_in_step parts ≡ true
-  pub measured : path_length (reading parts) ≡ l
-  pub labelled : path_labelled (reading parts) ≡ true
-  pub few : length parts ≤ places l
-
-pub cut : (table : List Part) (n l : ℕ) → EndsAt table n → Fitting table n l → Cut (take n table) l
+-- The query's parts alone are a table of that query.
+pub cut : (table : List Part) (n l : ℕ) → EndsAt table n → Fitting table n l → let parts = take n table in EndsAt parts (length parts) × Fitting parts (length parts) l
 cut table n l a f =
     let k : last_place table < n = omega (arith, a.number) in
     let r = reading_stays table n k a.within in
     let w = length-take-le n table a.within in
-    record {
-      whole = omega (arith, last_stays table n (omega arith), w, a.number);
-      step = step_stays table n k ∙ a.step;
-      measured = ap path_length r ∙ f.measured;
-      labelled = ap path_labelled r ∙ f.labelled;
-      few = omega (arith, w, f.few);
-    }
+    (
+      record { number = omega (arith, last_stays table n (omega arith), w, a.number); within = omega arith; few = omega (arith, w, a.few); step = step_stays table n k ∙ a.step },
+      record { measured = ap path_length r ∙ f.measured; short = f.short; labelled = ap path_labelled r ∙ f.labelled; few = omega (arith, w, f.few) },
+    )

@@ -1,13 +1,12 @@
-use Rattle.std.proofs.Common.{◌∙◌, arith}
+use Rattle.std.proofs.Common.{◌∙◌, sym, arith}
 use Rattle.table.proofs.Made.{cut, fits}
 use Rattle.table.proofs.Whole.{reading_stays}
 use Rattle.table.proofs.CheckedQuery.lawful.Goals as goal
 
 pub invariant_of-result : goal.invariant_of-result
 invariant_of-result c =
-    let f = c.in_ok-query_length.ensures in
-    let q = cut c.args.table.now c.in_ok-n.n c.in_ok-query_length.query_length c.in_ok-n.ensures f in
-    record { whole = q.whole; step = q.step; measured = q.measured; short = f.short; labelled = q.labelled; few = q.few }
+    let q = cut c.args.table.now c.in_ok-n.n c.in_ok-query_length.query_length c.in_ok-n.ensures c.in_ok-query_length.ensures in
+    record { whole = sym q.0.number; step = q.0.step; measured = q.1.measured; short = q.1.short; labelled = q.1.labelled; few = q.1.few }
 
 pub returns : goal.returns
 returns c =
