@@ -2,6 +2,7 @@
 use Rattle.std.proofs.Common.{◌≡◌, ◌&&◌, ℕ, ◌+◌, ◌-◌, ◌<◌, ◌≤◌, Bool, true, false, leb, List, length, take, sym, refl, ap, ◌∙◌, ⊎_elim, arith, lit≤, Option, Some, None}
 use Rattle.std.proofs.lemmas.List.{length-take-le, take_all}
 use Rattle.std.specs.Bool.{then_some}
+use Rattle.std.specs.Option.{MatchOption}
 use Rattle.std.proofs.lemmas.Bool.Decides.{nat_tests}
 use Rattle.std.proofs.lemmas.Bool.{cases_lt, cond_both, le-leb}
 use Rattle.model.specs.Limits.{most_length, places}
@@ -11,7 +12,7 @@ use Rattle.table.specs.Reading.{itself, last_place, reading}
 use Rattle.table.specs.Formulas.{ends_in_step}
 use Rattle.table.specs.Lawful.{LawfulQuery, path_labelled, parts_in, fit, checked_reading, EveryTableIsLawful, PastTheQueryNothingCounts}
 use Rattle.table.specs.Lengths.{path_cost, cost_at, capped}
-use Rattle.table.specs.Held.{EndsAt, Fitting, Measured}
+use Rattle.table.specs.Held.{EndsAt, Fitting}
 use Rattle.table.proofs.Lawful.{path_sound, path_free, path_some}
 use Rattle.table.proofs.Whole.{whole_query, no_step, no_last, last_stays, reading_stays, step_stays}
 
@@ -58,8 +59,8 @@ module _ (table : List Part) where
       cc (k, whole_query table (omega (arith, e.number, e.within)) e.step)
 
   -- What the last part counts is the length of a lawful query, if it is small enough and the parts are few enough.
-  pub measured : (n l : ℕ) → EndsAt table n → l ≡ capped (cost_at table (n - 1)) → Measured table n (then_some (leb l most_length && leb n (places l)) l)
-  measured n l e c = then_some_both (leb l most_length && leb n (places l)) l (Measured table n) fitting other
+  pub measured : (n l : ℕ) → EndsAt table n → l ≡ capped (cost_at table (n - 1)) → MatchOption (then_some (leb l most_length && leb n (places l)) l) (checked_reading table ≡ itself) (Fitting table n)
+  measured n l e c = then_some_both (leb l most_length && leb n (places l)) l (λ o. MatchOption o (checked_reading table ≡ itself) (Fitting table n)) fitting other
     where
       fitting : (leb l most_length && leb n (places l)) ≡ true → Fitting table n l
       fitting k =
@@ -102,8 +103,7 @@ pub cut : (table : List Part) (n l : ℕ) → EndsAt table n → Fitting table n
 cut table n l a f =
     let k : last_place table < n = omega (arith, a.number) in
     let r = reading_stays table n k a.within in
-    let w = length-take-le n table a.within in
-    (
+    let w = length-take-le n table a.within in (
       record { number = omega (arith, last_stays table n (omega arith), w, a.number); within = omega arith; few = omega (arith, w, a.few); step = step_stays table n k ∙ a.step },
       record { measured = ap path_length r ∙ f.measured; short = f.short; labelled = ap path_labelled r ∙ f.labelled; few = omega (arith, w, f.few) },
     )

@@ -1,11 +1,11 @@
 // Reading a table as a query.
-ghost use Rattle.std.specs.Prelude.{◌≡◌, ◌+◌, ◌<◌, ◌≤◌, ◌&&◌, true, length, nat_le, Some};
+ghost use Rattle.std.specs.Prelude.{◌≡◌, ◌+◌, ◌<◌, ◌≤◌, ◌&&◌, true, length, nat_le, MatchOption};
 ghost use Rattle.model.specs.Limits.{most_length, most_parts, places};
 ghost use Rattle.model.specs.Query.{path_length};
 ghost use Rattle.table.specs.Reading.{itself as self_path, reading};
 ghost use Rattle.table.specs.Formulas.{PartByPart};
 ghost use Rattle.table.specs.Lawful.{LawfulQuery, checked_reading, EveryTableIsLawful, PastTheQueryNothingCounts};
-ghost use Rattle.table.specs.Held.{Ended, Measured, ReadAs, parts_of, reads_as};
+ghost use Rattle.table.specs.Held.{EndsAt, Fitting, parts_of, reads_as};
 
 use crate::CheckedQuery;
 use crate::measure::measure;
@@ -34,7 +34,7 @@ const ITSELF: [Part; 3] = [
 
 // How many parts the query takes, if its last one is there, is a step, and is not past the most that a query has.
 fn query_end(table: &[Part]) -> Option<usize>
-    ensures { Ended table.now result }
+    ensures { MatchOption result (checked_reading table.now ≡ self_path) (EndsAt table.now) }
 {
     let last = table.first()?.first;
     match table.get(last)?.tag.sort() {
@@ -52,8 +52,8 @@ fn allowed(length: usize, parts: usize) -> bool
 
 // The length of the lawful query that the first n parts make, or none.
 fn lawful_length(table: &[Part], n: usize) -> Option<usize>
-    requires { Ended table.now (Some n) }
-    ensures { Measured table.now n result }
+    requires { EndsAt table.now n }
+    ensures { MatchOption result (checked_reading table.now ≡ self_path) (Fitting table.now n) }
 {
     let length = measure(table, n);
     allowed(length, n).then_some(length)
@@ -71,7 +71,7 @@ impl<'a> CheckedQuery<'a> {
 
     // The lawful query of a table, or none.
     fn lawful(table: &'a [Part]) -> Option<CheckedQuery<'a>>
-        ensures { ReadAs table.now result }
+        ensures { MatchOption result (checked_reading table.now ≡ self_path) (λ q. reads_as q ≡ checked_reading table.now) }
     {
         let n = query_end(table)?;
         let query_length = lawful_length(table, n)?;
