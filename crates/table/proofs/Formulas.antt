@@ -4,7 +4,7 @@ use Rattle.model.specs.declared.axis.Axis.{Axis}
 use Rattle.model.specs.Axes.{inverse}
 use Rattle.model.specs.Query.{Path, last, then}
 use Rattle.model.specs.Query as m
-use Rattle.model.specs.Verdict.{Formula, first, conj, disj, neg, along, path_formula, step_from, query_formula}
+use Rattle.model.specs.Verdict.{Formula, first, conj, neg, along, path_formula, step_from, query_formula}
 use Rattle.table.specs.declared.part.Part.{Part}
 use Rattle.table.specs.declared.part.Tag.{Tag}
 use Rattle.table.specs.declared.part.Tag.TheVariants.{First, Any, Named, Filtered, Then, Along, And, Or, Not, Step}
@@ -45,9 +45,6 @@ step_with : (f : Formula) (a : Axis) (x : Asked) → step_from f (step_of a x) �
 step_with f a (only t) = refl
 step_with f a (also t g) = refl
 
-two : (make : Formula → Formula → Formula) (x x' y y' : Formula) → x ≡ x' → y ≡ y' → make x y ≡ make x' y'
-two make x x' y y' p q = ap (λ (z : Formula). make z y) p ∙ ap (make x') q
-
 module _ (parts : List Part) (i : ℕ) (h : i < length parts) where
   abbrev before : List Piece
   before = pieces (take i parts)
@@ -59,15 +56,15 @@ module _ (parts : List Part) (i : ℕ) (h : i < length parts) where
   by_tag First j k = refl
   by_tag Any j k = refl
   by_tag Named j k = refl
-  by_tag Filtered j k = two conj _ _ _ _ (at Testing j) (at Filtering k)
-  by_tag Then j k = two conj _ _ _ _ (at Asking j) (at Going k)
+  by_tag Filtered j k = cc (at Testing j, at Filtering k)
+  by_tag Then j k = cc (at Asking j, at Going k)
   by_tag (Along a) j k = path_to_lem a (piece_at before j) ∙ ap (along a) (at Reaching j)
-  by_tag And j k = two conj _ _ _ _ (at Filtering j) (at Filtering k)
-  by_tag Or j k = two disj _ _ _ _ (at Filtering j) (at Filtering k)
+  by_tag And j k = cc (at Filtering j, at Filtering k)
+  by_tag Or j k = cc (at Filtering j, at Filtering k)
   by_tag Not j k = ap neg (at Filtering j)
   by_tag (Step a) j k =
       let x = asked_of (piece_at before j) in
-      query_with_lem (piece_at before k) (step_of a x) ∙ step_with (piece_formula (start_of (piece_at before k))) a x ∙ two conj _ _ _ _ (at Asking j) (ap (along (inverse a)) (at Starting k))
+      cc (query_with_lem (piece_at before k) (step_of a x), step_with (piece_formula (start_of (piece_at before k))) a x, at Asking j, at Starting k)
 
   each_part : formula_at parts i ≡ part_formula parts i
   each_part = ap piece_formula (piece_is parts i h) ∙ by_tag (tag_at parts i) (part_at parts i).first (part_at parts i).second

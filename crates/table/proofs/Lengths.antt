@@ -1,5 +1,7 @@
 -- Lengths: what a part counts comes from what the parts that it names count.
-use Rattle.std.proofs.Common.{◌≡◌, ℕ, ◌+◌, ◌<◌, List, length, take, refl, ap, ◌∙◌, arith}
+use Rattle.std.proofs.Common.{◌≡◌, ℕ, ◌+◌, ◌<◌, Some, slice_get, slice_index, List, [], ◌∷◌, ◌++◌, length, take, refl, ap, ◌∙◌, arith, below_more}
+use Rattle.std.proofs.lemmas.List.{get_or_append_left, get_or_push, length_push}
+use Rattle.std.proofs.lemmas.Option.{get_or_from_slice_get, slice_get_within}
 use Rattle.model.specs.declared.axis.Axis.{Axis}
 use Rattle.model.specs.Query.{Path, last, then}
 use Rattle.model.specs.Query as m
@@ -9,7 +11,7 @@ use Rattle.table.specs.declared.part.Tag.TheVariants.{First, Any, Named, Filtere
 use Rattle.table.specs.declared.role.Role.{Role}
 use Rattle.table.specs.declared.role.Role.TheVariants.{Testing, Asking, Reaching, Going, Filtering, Starting}
 use Rattle.table.specs.Reading.{Asked, only, also, Piece, begins, asks, onward, path, filter, query, step_of, extended, asked_of, path_to, query_with, piece_at, tagged, pieces, part_at, tag_at}
-use Rattle.table.specs.Lengths.{path_cost, step_cost, asked_cost, piece_cost, cost_at, cost_from, tag_cost}
+use Rattle.table.specs.Lengths.{path_cost, step_cost, asked_cost, piece_cost, cost_at, cost_from, tag_cost, capped, Costed}
 use Rattle.table.proofs.Pieces.{piece_is}
 use Rattle.table.proofs.Seen.{taken, reached_of, start_of, taken_seen}
 
@@ -58,3 +60,12 @@ module _ (parts : List Part) (i : ℕ) (h : i < length parts) where
 
   pub part_cost : cost_at parts i ≡ tag_cost (tag_at parts i) parts i (part_at parts i).first (part_at parts i).second
   part_cost = ap piece_cost (piece_is parts i h) ∙ by_tag (tag_at parts i) (part_at parts i).first (part_at parts i).second
+
+-- One cost more, of the next part.
+pub costed_more : (parts : List Part) (costs : List ℕ) (p : Part) (x : ℕ) → Costed parts costs → slice_get parts (length costs) ≡ Some p → x ≡ capped (tag_cost p.tag parts (length costs) p.first p.second) → Costed parts (costs ++ (x ∷ []))
+costed_more parts costs p x c next e =
+    let i = length costs in
+    let is : part_at parts i ≡ p = get_or_from_slice_get parts i p _ next in
+    let here : x ≡ capped (cost_at parts i) = cc (e, part_cost parts i (slice_get_within parts i p next), is) in
+    let below : (j : ℕ) → j < i + 1 → slice_index (costs ++ (x ∷ [])) j ≡ capped (cost_at parts j) = below_more _ _ (λ k h. get_or_append_left costs (x ∷ []) _ k h ∙ c k h) (get_or_push costs x _ i refl ∙ here) in
+    λ j h. below j (omega (arith, length_push costs x))

@@ -1,41 +1,37 @@
 -- Made: the query that a table reads as, by its last part and by what the parts count.
-use Rattle.std.proofs.Common.{◌≡◌, ℕ, ◌+◌, ◌-◌, ◌<◌, ◌≤◌, Bool, true, false, cond, ◌&&◌, leb, List, length, take, sym, refl, ap, ◌∙◌, ⊎_elim, arith, lit≤}
+use Rattle.std.proofs.Common.{◌≡◌, ◌&&◌, ℕ, ◌+◌, ◌-◌, ◌<◌, ◌≤◌, Bool, true, false, leb, List, length, take, sym, refl, ap, ◌∙◌, ⊎_elim, arith, lit≤, Option, Some, None}
 use Rattle.std.proofs.lemmas.List.{length-take-le, take_all}
-use Rattle.std.proofs.lemmas.Bool.{and_from, and_parts, cases_Bool, cases_lt, cond-true, cond-false, le-leb, leb-true}
-use Rattle.model.specs.Limits.{most_length, most_parts, places}
+use Rattle.std.specs.Bool.{then_some}
+use Rattle.std.specs.Option.{MatchOption}
+use Rattle.std.proofs.lemmas.Bool.Decides.{nat_tests}
+use Rattle.std.proofs.lemmas.Bool.{cases_lt, cond_both, le-leb}
+use Rattle.model.specs.Limits.{most_length, places}
 use Rattle.model.specs.Query.{Path, path_length}
 use Rattle.table.specs.declared.part.Part.{Part}
 use Rattle.table.specs.Reading.{itself, last_place, reading}
 use Rattle.table.specs.Formulas.{ends_in_step}
 use Rattle.table.specs.Lawful.{LawfulQuery, path_labelled, parts_in, fit, checked_reading, EveryTableIsLawful, PastTheQueryNothingCounts}
-use Rattle.table.specs.Lengths.{path_cost, piece_cost, cost_at, capped}
+use Rattle.table.specs.Lengths.{path_cost, cost_at, capped}
 use Rattle.table.specs.Held.{EndsAt, Fitting}
 use Rattle.table.proofs.Lawful.{path_sound, path_free, path_some}
 use Rattle.table.proofs.Whole.{whole_query, no_step, no_last, last_stays, reading_stays, step_stays}
+
+then_some_both : (b : Bool) (l : ℕ) → (P : Option ℕ → Type 0) → (b ≡ true → P (Some l)) → (b ≡ false → P None) → P (then_some b l)
+then_some_both true l P f g = f refl
+then_some_both false l P f g = g refl
 
 module _ (table : List Part) where
   abbrev q : Path
   q = reading table
 
-  either_way : (b : Bool) (x : Path) → x ≡ itself → cond b x itself ≡ itself
-  either_way true x e = e
-  either_way false x e = refl
-
   pub stays_itself : q ≡ itself → checked_reading table ≡ itself
-  stays_itself = either_way (fit table) q
+  stays_itself e = cond_both (fit table) q itself (λ p. p ≡ itself) (λ _. e) (λ _. refl)
+
+  fit_parts : fit table ≡ true → (path_length q ≤ most_length) × (path_labelled q ≡ true) × (parts_in table ≤ places (path_length q))
+  fit_parts e = grind (arith, nat_tests)
 
   pub unfit : ((path_length q ≤ most_length) → path_labelled q ≡ true → parts_in table ≤ places (path_length q) → ⊥) → checked_reading table ≡ itself
-  unfit never = ⊎_elim (λ e. absurd (wrong e)) (λ e. cond-false (fit table) q itself e) (cases_Bool (fit table))
-    where
-      wrong : fit table ≡ true → ⊥
-      wrong e =
-          let a = and_parts (leb (path_length q) most_length && path_labelled q) (leb (parts_in table) (places (path_length q))) e in
-          let b = and_parts (leb (path_length q) most_length) (path_labelled q) a.0 in
-          never (leb-true (path_length q) most_length b.0) b.1 (leb-true (parts_in table) (places (path_length q)) a.1)
-
-  -- a last part that stands too far on
-  pub too_far : most_parts ≤ last_place table → checked_reading table ≡ itself
-  too_far h = unfit (λ s l f. omega arith)
+  unfit never = cond_both (fit table) q itself (λ p. p ≡ itself) (λ e. let a = fit_parts e in absurd (never a.0 a.1 a.2)) (λ _. refl)
 
   pub not_there : length table ≤ last_place table → checked_reading table ≡ itself
   not_there h = stays_itself (no_last table h)
@@ -46,9 +42,9 @@ module _ (table : List Part) where
   pub fits : (n l : ℕ) → Fitting table n l → n ≡ parts_in table → q ≡ checked_reading table
   fits n l f e =
       let m = f.measured in
-      sym (cond-true (fit table) q itself (and_from (leb (path_length q) most_length && path_labelled q) (leb (parts_in table) (places (path_length q)))
-      (and_from (leb (path_length q) most_length) (path_labelled q) (le-leb (path_length q) most_length (omega (arith, f.short))) f.labelled)
-      (le-leb (parts_in table) (places (path_length q)) (omega (arith, f.few)))))
+      let short : leb (path_length q) most_length ≡ true = le-leb (path_length q) most_length (omega (arith, f.short)) in
+      let few : leb (parts_in table) (places (path_length q)) ≡ true = le-leb (parts_in table) (places (path_length q)) (omega (arith, f.few)) in
+      simp (short, f.labelled, few)
 
   -- Parts that read as a lawful query and are few enough hold it.
   pub holds : (p : Path) → q ≡ p → path_length p ≤ most_length → path_labelled p ≡ true → parts_in table ≤ places (path_length p) → checked_reading table ≡ p
@@ -60,37 +56,31 @@ module _ (table : List Part) where
   whole_cost : (n : ℕ) → EndsAt table n → cost_at table (n - 1) ≡ path_cost q
   whole_cost n e =
       let k : n - 1 ≡ last_place table = omega (arith, e.number) in
-      ap (cost_at table) k ∙ sym (ap piece_cost (whole_query table (omega (arith, e.number, e.within)) e.step))
+      cc (k, whole_query table (omega (arith, e.number, e.within)) e.step)
 
-  pub measured : (n l : ℕ) → EndsAt table n → l ≡ capped (cost_at table (n - 1)) → l ≤ most_length → n ≤ places l → Fitting table n l
-  measured n l e c h k =
-      let w = whole_cost n e in
-      let s = path_sound q (omega arith) in
-      record { measured = omega (arith, s.0); short = h; labelled = s.1; few = k }
+  -- What the last part counts is the length of a lawful query, if it is small enough and the parts are few enough.
+  pub measured : (n l : ℕ) → EndsAt table n → l ≡ capped (cost_at table (n - 1)) → MatchOption (then_some (leb l most_length && leb n (places l)) l) (checked_reading table ≡ itself) (Fitting table n)
+  measured n l e c = then_some_both (leb l most_length && leb n (places l)) l (λ o. MatchOption o (checked_reading table ≡ itself) (Fitting table n)) fitting other
+    where
+      fitting : (leb l most_length && leb n (places l)) ≡ true → Fitting table n l
+      fitting k =
+          let w = whole_cost n e in
+          let a : l ≤ most_length = grind (arith, nat_tests) in
+          let s = path_sound q (omega arith) in
+          record { measured = omega (arith, s.0); short = a; labelled = s.1; few = grind (arith, nat_tests) }
 
-  pub too_long : (n l : ℕ) → EndsAt table n → l ≡ capped (cost_at table (n - 1)) → most_length < l → checked_reading table ≡ itself
-  too_long n l e c h = unfit (λ s b f. omega (arith, whole_cost n e, path_free q b))
-
-  pub too_many : (n l : ℕ) → EndsAt table n → l ≡ capped (cost_at table (n - 1)) → l ≤ most_length → places l < n → checked_reading table ≡ itself
-  too_many n l e c h k = unfit (λ s b f. omega (arith, whole_cost n e, path_free q b, e.number))
+      other : (leb l most_length && leb n (places l)) ≡ false → checked_reading table ≡ itself
+      other k = unfit (λ s b f. let w = whole_cost n e in let g = path_free q b in let m = e.number in grind (arith, nat_tests))
 
 -- Theorems over every table.
 itself_lawful : LawfulQuery itself
 itself_lawful = record { some = lit≤ tt; short = lit≤ tt; labelled = refl }
 
-by_fit : (b : Bool) (x : Path) → (b ≡ true → LawfulQuery x) → LawfulQuery (cond b x itself)
-by_fit true x f = f refl
-by_fit false x f = itself_lawful
-
 pub every_table_is_lawful : EveryTableIsLawful
-every_table_is_lawful table = by_fit (fit table) (reading table) lawful
-  where
-    lawful : fit table ≡ true → LawfulQuery (reading table)
-    lawful e =
-        let q = reading table in
-        let a = and_parts (leb (path_length q) most_length && path_labelled q) (leb (parts_in table) (places (path_length q))) e in
-        let b = and_parts (leb (path_length q) most_length) (path_labelled q) a.0 in
-        record { some = path_some q; short = leb-true (path_length q) most_length b.0; labelled = b.1 }
+every_table_is_lawful table =
+    let q = reading table in
+    let lawful : fit table ≡ true → LawfulQuery q = λ e. let a = fit_parts table e in record { some = path_some q; short = a.0; labelled = a.1 } in
+    cond_both (fit table) q itself LawfulQuery lawful (λ _. itself_lawful)
 
 -- the cut to the query's parts reads as the table does, whether or not they are all there
 cut_reading : (table : List Part) → reading (take (parts_in table) table) ≡ reading table
@@ -100,34 +90,20 @@ cut_reading table =
 cut_last : (table : List Part) → last_place (take (parts_in table) table) ≡ last_place table
 cut_last table = last_stays table (parts_in table) (omega arith)
 
-by_both : (q p : Path) (n m : ℕ) → q ≡ p → n ≡ m → cond ((leb (path_length q) most_length && path_labelled q) && leb (n + 1) (places (path_length q))) q itself ≡ cond ((leb (path_length p) most_length && path_labelled p) && leb (m + 1) (places (path_length p))) p itself
-by_both q p n m e k =
-    ap (λ (x : Path). cond ((leb (path_length x) most_length && path_labelled x) && leb (n + 1) (places (path_length x))) x itself) e ∙ ap (λ (y : ℕ). cond ((leb (path_length p) most_length && path_labelled p) && leb (y + 1) (places (path_length p))) p itself) k
-
 pub past_the_query_nothing_counts : PastTheQueryNothingCounts
 past_the_query_nothing_counts table other e =
     let n = parts_in table in
     let k : last_place other ≡ last_place table = sym (last_stays other n (omega arith)) ∙ ap last_place e ∙ cut_last table in
     let w : take (parts_in other) other ≡ take n table = ap (λ (x : ℕ). take (x + 1) other) k ∙ e in
-    by_both (reading other) (reading table) (last_place other) (last_place table) (sym (cut_reading other) ∙ ap reading w ∙ cut_reading table) k
+    let r : reading other ≡ reading table = sym (cut_reading other) ∙ ap reading w ∙ cut_reading table in
+    cc
 
--- The query's parts alone are a checked query.
-pub record Cut (parts : List Part) (l : ℕ) : Type 0 where
-  pub whole : last_place parts + 1 ≡ length parts
-  pub step : ends_in_step parts ≡ true
-  pub measured : path_length (reading parts) ≡ l
-  pub labelled : path_labelled (reading parts) ≡ true
-  pub few : length parts ≤ places l
-
-pub cut : (table : List Part) (n m l : ℕ) → m ≡ n → EndsAt table n → Fitting table n l → Cut (take m table) l
-cut table n m l e a f =
-    let k : last_place table < m = omega (arith, a.number) in
-    let r = reading_stays table m k (omega (arith, a.within)) in
-    let w : length (take m table) ≡ n = length-take-le m table (omega (arith, a.within)) ∙ e in
-    record {
-      whole = omega (arith, last_stays table m (omega arith), w, a.number);
-      step = step_stays table m k ∙ a.step;
-      measured = ap path_length r ∙ f.measured;
-      labelled = ap path_labelled r ∙ f.labelled;
-      few = omega (arith, w, f.few);
-    }
+-- The query's parts alone are a table of that query.
+pub cut : (table : List Part) (n l : ℕ) → EndsAt table n → Fitting table n l → let parts = take n table in EndsAt parts (length parts) × Fitting parts (length parts) l
+cut table n l a f =
+    let k : last_place table < n = omega (arith, a.number) in
+    let r = reading_stays table n k a.within in
+    let w = length-take-le n table a.within in (
+      record { number = omega (arith, last_stays table n (omega arith), w, a.number); within = omega arith; few = omega (arith, w, a.few); step = step_stays table n k ∙ a.step },
+      record { measured = ap path_length r ∙ f.measured; short = f.short; labelled = ap path_labelled r ∙ f.labelled; few = omega (arith, w, f.few) },
+    )

@@ -36,7 +36,7 @@ module _ (ps : List Part) (i : ℕ) (h : i ≤ length ps) where
 
 -- A piece before place i is the same in the first i parts; they have none from there on.
 pub piece_stays : (ps : List Part) (i j : ℕ) → j < i → i ≤ length ps → piece_at (pieces (take i ps)) j ≡ piece_at (pieces ps) j
-piece_stays ps i j l h = sym (ap (λ (x : List Piece). piece_at x j) (front_split ps i h) ∙ pieces_stay (pieces (take i ps)) (drop i ps) j (omega (arith, front_length ps i h)))
+piece_stays ps i j l h = cc (front_split ps i h, pieces_stay (pieces (take i ps)) (drop i ps) j (omega (arith, front_length ps i h)))
 
 pub piece_none : (ps : List Part) (i j : ℕ) → i ≤ j → i ≤ length ps → piece_at (pieces (take i ps)) j ≡ begins
 piece_none ps i j l h = get_or_past (pieces (take i ps)) j begins (omega (arith, front_length ps i h))

@@ -1,5 +1,5 @@
 -- Seen: what is taken from a piece in a role is the piece itself if its sort serves, and else what stands in.
-use Rattle.std.proofs.Common.{◌≡◌, ℕ, ◌<◌, ◌≤◌, Bool, true, false, cond, ◌&&◌, List, length, take, sym, refl, ap, ◌∙◌, ⊎_elim, arith}
+use Rattle.std.proofs.Common.{◌≡◌, ℕ, ◌<◌, ◌≤◌, Bool, true, false, cond, List, length, take, refl, ap, ◌∙◌, ⊎_elim, arith}
 use Rattle.std.proofs.lemmas.Bool.{cases_lt, lt-ltb, le-ltb}
 use Rattle.model.specs.Query.{any, Path as QueryPath, holds}
 use Rattle.table.specs.declared.part.Part.{Part}
@@ -101,10 +101,7 @@ module _ {X : Type 0} (of : Piece → X) (same : (p : QueryPath) → of (filter 
       below l =
           let x = piece_at (pieces parts) j in
           let s : sort_of_piece x ≡ sort_of (tag_at parts j) = ap sort_of_piece (piece_is parts j (omega arith)) ∙ tag_tells (tag_at parts j) (pieces (take j parts)) (part_at parts j).first (part_at parts j).second in
-          ap (λ (y : Piece). of (fitted role y)) (piece_stays parts i j l h) ∙ of_cond (serves (sort_of_piece x) role) x (stand_in role)
-          ∙ ap (λ (y : Sort). cond (serves y role) (of x) (of (stand_in role))) s ∙ sym (ap (λ (b : Bool). cond (b && serves (sort_of (tag_at parts j)) role) (of x) (of (stand_in role))) (lt-ltb j i l))
+          rw (lt-ltb j i l) (cc (piece_stays parts i j l h, of_cond (serves (sort_of_piece x) role) x (stand_in role), s))
 
       above : i ≤ j → of (fitted role (piece_at (pieces (take i parts)) j)) ≡ seen of role parts i j
-      above l =
-          ap (λ (y : Piece). of (fitted role y)) (piece_none parts i j l h) ∙ ap of (none_fitted role)
-          ∙ sym (ap (λ (b : Bool). cond (b && serves (sort_of (tag_at parts j)) role) (of (piece_at (pieces parts) j)) (of (stand_in role))) (le-ltb j i l))
+      above l = rw (le-ltb j i l) (cc (piece_none parts i j l h, none_fitted role))

@@ -1,12 +1,12 @@
 -- What a checked query holds, and how it is made.
-use Rattle.std.specs.Prelude.{◌≡◌, ℕ, ◌≤◌, true, List, length, Some, None, Option}
+use Rattle.std.specs.Prelude.{◌≡◌, ℕ, ◌≤◌, true, List, length}
 use Rattle.model.specs.Limits.{most_length, most_parts, places}
 use Rattle.model.specs.Query.{Path, path_length}
 use Rattle.table.specs.declared.CheckedQuery.{CheckedQuery}
 use Rattle.table.specs.declared.part.Part.{Part}
-use Rattle.table.specs.Reading.{itself, reading}
+use Rattle.table.specs.Reading.{reading}
 use Rattle.table.specs.Formulas.{ends_in_step}
-use Rattle.table.specs.Lawful.{parts_in, path_labelled, checked_reading}
+use Rattle.table.specs.Lawful.{parts_in, path_labelled}
 
 abbrev pub parts_of : CheckedQuery → List Part
 parts_of q = q.parts.now
@@ -21,17 +21,9 @@ pub record EndsAt (table : List Part) (n : ℕ) : Type 0 where
   pub few : n ≤ most_parts
   pub step : ends_in_step table ≡ true
 
-abbrev pub Ended : List Part → Option ℕ → Type 0
-Ended table (Some n) = EndsAt table n
-Ended table None = checked_reading table ≡ itself
-
 -- the first n parts make a lawful query of this length
 pub record Fitting (table : List Part) (n l : ℕ) : Type 0 where
   pub measured : path_length (reading table) ≡ l
   pub short : l ≤ most_length
   pub labelled : path_labelled (reading table) ≡ true
   pub few : n ≤ places l
-
-abbrev pub Measured : List Part → ℕ → Option ℕ → Type 0
-Measured table n (Some l) = Fitting table n l
-Measured table n None = checked_reading table ≡ itself

@@ -1,5 +1,5 @@
 -- Lengths, part by part: what a piece of a query counts, and too much for a label that no element can have.
-use Rattle.std.specs.Prelude.{◌≡◌, ℕ, ◌+◌, ◌<◌, min, cond, List, slice_index}
+use Rattle.std.specs.Prelude.{◌≡◌, ℕ, ◌+◌, ◌<◌, min, cond, List, length, slice_index}
 use Rattle.model.specs.Limits.{most_length}
 use Rattle.model.specs.Query.{Test, any, named, Path, last, then, Step, plain, filtered, Filter, holds, both, either, negated}
 use Rattle.table.specs.declared.part.Part.{Part}
@@ -67,6 +67,6 @@ tag_cost (StepTag a) parts i j k = cost_from Starting parts i k + (1 + cost_from
 abbrev pub capped : ℕ → ℕ
 capped n = min too_much n
 
--- the costs of the first n parts stand in the list, each capped
-abbrev pub Costed : List Part → List ℕ → ℕ → Type 0
-Costed parts costs n = (j : ℕ) → j < n → slice_index costs j ≡ capped (cost_at parts j)
+-- The costs of the first parts stand in the list, each capped.
+abbrev pub Costed : List Part → List ℕ → Type 0
+Costed parts costs = (j : ℕ) → j < length costs → slice_index costs j ≡ capped (cost_at parts j)

@@ -1,11 +1,11 @@
 // Reading a table as a query.
-ghost use Rattle.std.specs.Prelude.{◌≡◌, ◌+◌, ◌<◌, ◌≤◌, true, length, Some};
+ghost use Rattle.std.specs.Prelude.{◌≡◌, ◌+◌, ◌<◌, ◌≤◌, ◌&&◌, true, length, nat_le, MatchOption};
 ghost use Rattle.model.specs.Limits.{most_length, most_parts, places};
 ghost use Rattle.model.specs.Query.{path_length};
 ghost use Rattle.table.specs.Reading.{itself as self_path, reading};
 ghost use Rattle.table.specs.Formulas.{PartByPart};
 ghost use Rattle.table.specs.Lawful.{LawfulQuery, checked_reading, EveryTableIsLawful, PastTheQueryNothingCounts};
-ghost use Rattle.table.specs.Held.{Ended, EndsAt, Fitting, Measured, parts_of, reads_as};
+ghost use Rattle.table.specs.Held.{EndsAt, Fitting, parts_of, reads_as};
 
 use crate::CheckedQuery;
 use crate::measure::measure;
@@ -19,47 +19,44 @@ const ITSELF: [Part; 3] = [
     Part {
         tag: Tag::First,
         first: 2,
-        second: 0,
+        ..Part::UNUSED
     },
     Part {
         tag: Tag::Any,
-        first: 0,
-        second: 0,
+        ..Part::UNUSED
     },
     Part {
         tag: Tag::Step(Axis::Itself),
         first: 1,
-        second: 0,
+        ..Part::UNUSED
     },
 ];
 
 // How many parts the query takes, if its last one is there, is a step, and is not past the most that a query has.
 fn query_end(table: &[Part]) -> Option<usize>
-    ensures { Ended table.now result }
+    ensures { MatchOption result (checked_reading table.now ≡ self_path) (EndsAt table.now) }
 {
-    if table.len() == 0 {
-        return None;
-    }
-    let last = table[0].first;
-    if last >= table.len() || last >= MOST_PARTS {
-        return None;
-    }
-    match table[last].tag.sort() {
-        Sort::Query => Some(last + 1),
+    let last = table.first()?.first;
+    match table.get(last)?.tag.sort() {
+        Sort::Query if last < MOST_PARTS => Some(last + 1),
         _ => None,
     }
 }
 
+// Whether a lawful query may have this length and so many parts.
+fn allowed(length: usize, parts: usize) -> bool
+    ensures { result ≡ (nat_le length most_length && nat_le parts (places length)) }
+{
+    length <= MOST_LENGTH && parts <= 6 * length + 1
+}
+
 // The length of the lawful query that the first n parts make, or none.
 fn lawful_length(table: &[Part], n: usize) -> Option<usize>
-    requires { Ended table.now (Some n) }
-    ensures { Measured table.now n result }
+    requires { EndsAt table.now n }
+    ensures { MatchOption result (checked_reading table.now ≡ self_path) (Fitting table.now n) }
 {
-    let counted = measure(table, n);
-    if counted > MOST_LENGTH || n > 6 * counted + 1 {
-        return None;
-    }
-    Some(counted)
+    let length = measure(table, n);
+    allowed(length, n).then_some(length)
 }
 
 impl<'a> CheckedQuery<'a> {
@@ -72,16 +69,16 @@ impl<'a> CheckedQuery<'a> {
         }
     }
 
-    // The query of the first n parts, which are a lawful one's.
-    fn of_parts(table: &'a [Part], n: usize, query_length: usize) -> CheckedQuery<'a>
-        requires ends { EndsAt table.now n }
-        requires fits { Fitting table.now n query_length }
-        ensures { reads_as result ≡ reading table.now }
+    // The lawful query of a table, or none.
+    fn lawful(table: &'a [Part]) -> Option<CheckedQuery<'a>>
+        ensures { MatchOption result (checked_reading table.now ≡ self_path) (λ q. reads_as q ≡ checked_reading table.now) }
     {
-        CheckedQuery {
-            parts: &table[0..n],
+        let n = query_end(table)?;
+        let query_length = lawful_length(table, n)?;
+        Some(CheckedQuery {
+            parts: &table[..n],
             query_length,
-        }
+        })
     }
 
     // The query of a table, whatever it holds: /self::* where its parts make no lawful one.
@@ -91,13 +88,7 @@ impl<'a> CheckedQuery<'a> {
         ensures every { EveryTableIsLawful }
         ensures past { PastTheQueryNothingCounts }
     {
-        let Some(n) = query_end(table) else {
-            return CheckedQuery::itself();
-        };
-        let Some(query_length) = lawful_length(table, n) else {
-            return CheckedQuery::itself();
-        };
-        CheckedQuery::of_parts(table, n, query_length)
+        CheckedQuery::lawful(table).unwrap_or(CheckedQuery::itself())
     }
 
     // The length of the query: its steps and each `and`, `or` and `not`.

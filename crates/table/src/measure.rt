@@ -1,5 +1,6 @@
 // The length of the query that parts read as, found in one pass over them.
-ghost use Rattle.std.specs.Prelude.{◌≡◌, ◌-◌, ◌<◌, ◌≤◌, length};
+ghost use Rattle.std.specs.Prelude.{◌≡◌, ◌+◌, ◌-◌, ◌<◌, ◌≤◌, length, slice_get, Some};
+ghost use Rattle.arrayvec.specs.ArrayVec.{array_vec_len};
 ghost use Rattle.model.specs.Limits.{most_parts};
 ghost use Rattle.model.specs.Query.{named};
 ghost use Rattle.table.specs.Formulas.{stand_in};
@@ -7,6 +8,7 @@ ghost use Rattle.table.specs.Lengths.{Costed, capped, cost_at, cost_from, piece_
 
 use crate::part::{Part, Tag};
 use crate::role::Role;
+use arrayvec::ArrayVec;
 use model::limits::{MOST_LABEL, MOST_LENGTH, MOST_PARTS};
 
 // Stands for all lengths above the greatest.
@@ -22,65 +24,78 @@ fn stand_in_cost(role: Role) -> usize
     }
 }
 
-// What the part at place j counts, seen from place i.
-fn share(parts: &[Part], costs: &[usize; MOST_PARTS], i: usize, j: usize, role: Role) -> usize
-    requires within { i ≤ length parts.now }
-    requires room { i ≤ most_parts }
-    requires costed { Costed parts.now costs.now i }
-    ensures { result ≡ capped (cost_from role parts.now i j) }
-{
-    if j < i && parts[j].tag.sort().serves(role) {
-        costs[j]
-    } else {
-        stand_in_cost(role)
-    }
-}
-
 // A label that no element can have counts too much.
 fn label_cost(label: usize) -> usize
     ensures { result ≡ capped (test_cost (named label)) }
 {
-    if label >= 1 && label <= MOST_LABEL as usize {
+    if (1..=MOST_LABEL as usize).contains(&label) {
         0
     } else {
         TOO_MUCH
     }
 }
 
-fn cap(cost: usize) -> usize
-    ensures { result ≡ capped cost }
-{
-    cost.min(TOO_MUCH)
+// The first parts of a table, each with what it counts.
+#[derive(Drop)]
+struct Counted<'a> {
+    parts: &'a [Part],
+    costs: ArrayVec<usize, MOST_PARTS>,
+    ghost within: { array_vec_len costs ≤ length parts.now },
+    ghost costed: { Costed parts.now costs.items },
 }
 
-// What a part counts that stands at place i.
-fn cost(parts: &[Part], costs: &[usize; MOST_PARTS], i: usize, part: Part) -> usize
-    requires within { i ≤ length parts.now }
-    requires room { i ≤ most_parts }
-    requires costed { Costed parts.now costs.now i }
-    ensures { result ≡ capped (tag_cost part.tag parts.now i part.first part.second) }
-{
-    match part.tag {
-        Tag::First | Tag::Any => 0,
-        Tag::Named => label_cost(part.first),
-        Tag::Filtered => {
-            let test = share(parts, costs, i, part.first, Role::Testing);
-            cap(test + share(parts, costs, i, part.second, Role::Filtering))
+impl<'a> Counted<'a> {
+    fn none(parts: &'a [Part]) -> Counted<'a>
+        ensures over { result.parts.now ≡ parts.now }
+        ensures none { array_vec_len result.costs ≡ 0 }
+    {
+        Counted {
+            parts,
+            costs: ArrayVec::new(),
         }
-        Tag::Then => {
-            let asked = share(parts, costs, i, part.first, Role::Asking);
-            cap(asked + share(parts, costs, i, part.second, Role::Going))
+    }
+
+    // What the part at place j counts in the role, seen from the next place.
+    fn share(&self, j: usize, role: Role) -> usize
+        ensures { result ≡ capped (cost_from role self.now.parts.now (array_vec_len self.now.costs) j) }
+    {
+        match self.costs.get(j) {
+            Some(cost) if self.parts[j].tag.sort().serves(role) => *cost,
+            _ => stand_in_cost(role),
         }
-        Tag::Along(_) => cap(1 + share(parts, costs, i, part.first, Role::Reaching)),
-        Tag::And | Tag::Or => {
-            let left = share(parts, costs, i, part.first, Role::Filtering);
-            cap(1 + left + share(parts, costs, i, part.second, Role::Filtering))
-        }
-        Tag::Not => cap(1 + share(parts, costs, i, part.first, Role::Filtering)),
-        Tag::Step(_) => {
-            let asked = share(parts, costs, i, part.first, Role::Asking);
-            cap(1 + asked + share(parts, costs, i, part.second, Role::Starting))
-        }
+    }
+
+    // What a part counts that stands at the next place.
+    fn cost(&self, part: Part) -> usize
+        ensures { result ≡ capped (tag_cost part.tag self.now.parts.now (array_vec_len self.now.costs) part.first part.second) }
+    {
+        let Part { tag, first, second } = part;
+        let cost = match tag {
+            Tag::First | Tag::Any => 0,
+            Tag::Named => label_cost(first),
+            Tag::Filtered => self.share(first, Role::Testing) + self.share(second, Role::Filtering),
+            Tag::Then => self.share(first, Role::Asking) + self.share(second, Role::Going),
+            Tag::Along(_) => 1 + self.share(first, Role::Reaching),
+            Tag::And | Tag::Or => 1
+                + self.share(first, Role::Filtering)
+                + self.share(second, Role::Filtering),
+            Tag::Not => 1 + self.share(first, Role::Filtering),
+            Tag::Step(_) => 1
+                + self.share(first, Role::Asking)
+                + self.share(second, Role::Starting),
+        };
+        cost.min(TOO_MUCH)
+    }
+
+    // Counts the next part.
+    fn count(&mut self, part: Part)
+        requires next { slice_get self.old.parts.now (array_vec_len self.old.costs) ≡ Some part }
+        requires room { array_vec_len self.old.costs < most_parts }
+        ensures over { self.new.parts.now ≡ self.old.parts.now }
+        ensures more { array_vec_len self.new.costs ≡ array_vec_len self.old.costs + 1 }
+    {
+        let cost = self.cost(part);
+        self.costs.push(cost);
     }
 }
 
@@ -91,9 +106,9 @@ pub(crate) fn measure(parts: &[Part], n: usize) -> usize
     requires few { n ≤ most_parts }
     ensures { result ≡ capped (cost_at parts.now (n - 1)) }
 {
-    let mut costs = [0; MOST_PARTS];
-    for i in 0..n {
-        costs[i] = cost(parts, &costs, i, parts[i]);
+    let mut counted = Counted::none(parts);
+    for part in &parts[..n] {
+        counted.count(*part);
     }
-    costs[n - 1]
+    counted.costs[n - 1]
 }

@@ -1,7 +1,6 @@
-use Rattle.std.proofs.Common.{◌≡◌, length}
-use Rattle.model.specs.Limits.{most_parts}
-use Rattle.table.specs.Lengths.{Costed}
+use Rattle.std.proofs.Common.{◌≡◌}
+use Rattle.arrayvec.specs.ArrayVec.{array_vec_len}
 use Rattle.table.proofs.measure.measure.Given as goal
 
-abbrev pub invariant-loop-i : goal.invariant-loop-i
-invariant-loop-i l = (length l.costs ≡ most_parts) × Costed l.parts l.costs l.i
+abbrev pub invariant-loop-part : goal.invariant-loop-part
+invariant-loop-part l = (l.counted.parts.now ≡ l.parts) × (array_vec_len l.counted.costs ≡ l.part-index)
