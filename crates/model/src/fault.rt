@@ -53,7 +53,12 @@ impl fmt::Display for Refusal {
     ghost output = { λ r. Some (refusal_text r) };
 
     fn fmt<W: fmt::Write>(&self, f: &mut fmt::Formatter<W>) -> fmt::Result {
-        write!(f, "{}, layer {}, place {}", self.number, self.layer, self.place)
+        let Refusal {
+            number,
+            layer,
+            place,
+        } = self;
+        write!(f, "{number}, layer {layer}, place {place}")
     }
 }
 

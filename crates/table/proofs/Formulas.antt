@@ -66,7 +66,7 @@ module _ (parts : List Part) (i : ℕ) (h : i < length parts) where
       let x = asked_of (piece_at before j) in
       cc (query_with_lem (piece_at before k) (step_of a x), step_with (piece_formula (start_of (piece_at before k))) a x, at Asking j, at Starting k)
 
-  each_part : formula_at parts i ≡ part_formula parts i
+  pub each_part : formula_at parts i ≡ part_formula parts i
   each_part = ap piece_formula (piece_is parts i h) ∙ by_tag (tag_at parts i) (part_at parts i).first (part_at parts i).second
 
 pub part_by_part : (parts : List Part) → last_place parts + 1 ≡ length parts → ends_in_step parts ≡ true → PartByPart parts (reading parts)
