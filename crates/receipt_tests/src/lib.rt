@@ -129,24 +129,22 @@ mod tests {
     #[test]
     fn links_relatives(rt: HostRuntime) {
         let till = worked();
-        let parents = [
-            None,
-            Some(0),
-            Some(1),
-            Some(1),
-            Some(0),
-            Some(4),
-            Some(4),
-            None,
+        // Parent, first child, next and previous sibling of each rank.
+        let relatives = [
+            (None, Some(1), None, None),
+            (Some(0), Some(2), Some(4), None),
+            (Some(1), None, Some(3), None),
+            (Some(1), None, None, Some(2)),
+            (Some(0), Some(5), None, Some(1)),
+            (Some(4), None, Some(6), None),
+            (Some(4), None, None, Some(5)),
+            (None, None, None, None),
         ];
-        let children = [Some(1), Some(2), None, None, Some(5), None, None, None];
-        let nexts = [None, Some(4), Some(3), None, None, Some(6), None, None];
-        let previous = [None, None, None, Some(2), Some(1), None, Some(5), None];
-        for rank in 0..8usize {
-            assert_eq!(rt; till.parent(rank), parents[rank]);
-            assert_eq!(rt; till.first_child(rank), children[rank]);
-            assert_eq!(rt; till.next_sibling(rank), nexts[rank]);
-            assert_eq!(rt; till.previous_sibling(rank), previous[rank]);
+        for (rank, (parent, child, next, previous)) in relatives.iter().enumerate() {
+            assert_eq!(rt; till.parent(rank), *parent);
+            assert_eq!(rt; till.first_child(rank), *child);
+            assert_eq!(rt; till.next_sibling(rank), *next);
+            assert_eq!(rt; till.previous_sibling(rank), *previous);
         }
         assert_eq!(rt; till.depth(), 2);
     }
