@@ -1,6 +1,6 @@
-pub mod Copy
 pub mod Elements
 pub mod First
 pub mod Found
 pub mod Split
 pub mod Kept
+pub mod Written
