@@ -1,5 +1,5 @@
 -- The answers to the questions, from what the levels and labels of a roll store say.
-use Rattle.std.proofs.Common.{Bor, ◌≡◌, ◌≢◌, ℕ, ◌+◌, ◌-◌, ◌<◌, ◌≤◌, Bool, true, false, eqb, ltb, List, length, get_or, take, drop, Some, None, Option, sym, refl, ap, ◌∙◌, ⊎_elim, arith}
+use Rattle.std.proofs.Common.{Bor, ◌≡◌, ◌≢◌, ℕ, ◌+◌, ◌-◌, ◌<◌, ◌≤◌, Bool, true, false, eqb, ltb, List, length, get_or, take, drop, Some, None, Option, sym, refl, ap, ◌∙◌, ⊎_elim, arith, length-drop}
 use Rattle.std.specs.Bool.{then_some}
 use Rattle.std.specs.List.{slice_get}
 use Rattle.std.specs.Option.{MatchOption, option_copied}
@@ -10,6 +10,7 @@ use Rattle.std.proofs.lemmas.Option.{slice_get-get_or, slice_get_past, slice_get
 use Rattle.model.specs.Receipt.{Receipt, count_of, label_at, label_of, level_at, level_of, within, parent_of, first_child_of, next_sibling_of, previous_sibling_of}
 use Rattle.model.proofs.Relatives.{inside, nearest_is, parent_some}
 use Rattle.model.proofs.Siblings.{child_next, no_child, next_found, next_none, previous_found, previous_none, first_alone}
+use Rattle.roll.specs.Deeper.{Deeper}
 use Rattle.roll.specs.Held.{receipt_of}
 use Rattle.roll.specs.declared.Roll.{Roll}
 use Rattle.roll.proofs.Elements.{told_count, told_level, told_label}
@@ -19,7 +20,7 @@ either P true q t f = t refl
 either P false q t f = f refl
 
 -- What stands in the part of a list from k on.
-pub part : (xs : List ℕ) (k m j : ℕ) → k + m ≡ j → j < length xs → get_or (take (length xs - k) (drop k xs)) m 0 ≡ get_or xs j 0
+part : (xs : List ℕ) (k m j : ℕ) → k + m ≡ j → j < length xs → get_or (take (length xs - k) (drop k xs)) m 0 ≡ get_or xs j 0
 part xs k m j e h = get_or-take (length xs - k) (drop k xs) m 0 (omega arith) ∙ get_or-drop k xs m 0 ∙ ap (λ n. get_or xs n 0) e
 
 -- What `get` found.
@@ -81,8 +82,8 @@ module _ (s : Roll) where
       no_child_told k = let n = counted in sym (no_child r s.lawful i (omega arith) (λ b. absurd (omega arith)))
 
       -- The next sibling is the first later element that is no deeper, if it is at the same level.
-      pub next_told : (q : ℕ) → i < q → q < length s.levels.now → at q ≤ v → ((j : ℕ) → i < j → j < q → v < at j) → then_some (eqb (at q) v) q ≡ next_sibling_of r i
-      next_told q k b low deeper =
+      next_by : (q : ℕ) → i < q → q < length s.levels.now → at q ≤ v → ((j : ℕ) → i < j → j < q → v < at j) → then_some (eqb (at q) v) q ≡ next_sibling_of r i
+      next_by q k b low deeper =
           let n = counted in
           let a = leveled i h in
           let c = leveled q b in
@@ -91,15 +92,34 @@ module _ (s : Roll) where
           (λ t. let e = eqb-true (at q) v t in sym (next_found r s.lawful i q k (omega arith) deep (omega arith)))
           (λ t. let e = eqb-false (at q) v t in sym (next_none r s.lawful i q k (omega arith) deep (λ b'. omega arith)))
 
-      pub no_next_told : ((j : ℕ) → i < j → j < length s.levels.now → v < at j) → None ≡ next_sibling_of r i
-      no_next_told deeper =
+      no_next_by : ((j : ℕ) → i < j → j < length s.levels.now → v < at j) → None ≡ next_sibling_of r i
+      no_next_by deeper =
           let n = counted in
           let a = leveled i h in
           sym (next_none r s.lawful i (count_of r) (omega arith) (omega arith) (λ j p z. let x = leveled j (omega arith) in let y = deeper j p (omega arith) in omega arith) (λ b. absurd (omega arith)))
 
+      -- the levels after the element
+      abbrev after : List ℕ
+      after = take (length s.levels.now - (i + 1)) (drop (i + 1) s.levels.now)
+
+      after_long : length after ≡ length s.levels.now - (i + 1)
+      after_long = let d = length-drop (i + 1) s.levels.now in length-take-le (length s.levels.now - (i + 1)) (drop (i + 1) s.levels.now) (omega arith)
+
+      passed_after : (m : ℕ) → Deeper after v 0 m → (j : ℕ) → i < j → j < i + 1 + m → j < length s.levels.now → v < at j
+      passed_after m deeper j a b c = let p = part s.levels.now (i + 1) (j - (i + 1)) j (omega arith) c in let x = deeper (j - (i + 1)) (omega arith) (omega arith) in omega arith
+
+      pub next_told : (m : ℕ) → (m < length after) × (get_or after m 0 ≤ v) × Deeper after v 0 m → then_some (eqb (at (i + 1 + m)) v) (i + 1 + m) ≡ next_sibling_of r i
+      next_told m f =
+          let l = after_long in
+          let p = part s.levels.now (i + 1) m (i + 1 + m) refl (omega arith) in
+          next_by (i + 1 + m) (omega arith) (omega arith) (omega arith) (λ j a b. passed_after m f.2 j a b (omega arith))
+
+      pub no_next_told : Deeper after v 0 (length after) → None ≡ next_sibling_of r i
+      no_next_told deeper = let l = after_long in no_next_by (λ j a b. passed_after (length after) deeper j a (omega arith) b)
+
       -- The previous sibling is the last earlier element that is no deeper, if it is at the same level.
-      pub previous_told : (q : ℕ) → q < i → at q ≤ v → ((j : ℕ) → q < j → j < i → v < at j) → then_some (eqb (at q) v) q ≡ previous_sibling_of r i
-      previous_told q k low deeper =
+      previous_by : (q : ℕ) → q < i → at q ≤ v → ((j : ℕ) → q < j → j < i → v < at j) → then_some (eqb (at q) v) q ≡ previous_sibling_of r i
+      previous_by q k low deeper =
           let n = counted in
           let a = leveled i h in
           let c = leveled q (omega arith) in
@@ -109,13 +129,31 @@ module _ (s : Roll) where
           (λ t. let e = eqb-false (at q) v t in sym (previous_none r s.lawful i q k (omega arith) deep (omega arith)))
 
       -- The first element is at level 0, so only that one has nothing before it that is no deeper.
-      pub no_previous_told : ((j : ℕ) → j < i → v < at j) → None ≡ previous_sibling_of r i
-      no_previous_told deeper =
+      no_previous_by : ((j : ℕ) → j < i → v < at j) → None ≡ previous_sibling_of r i
+      no_previous_by deeper =
           let n = counted in
           ⊎_elim
           (λ (z : i ≡ 0). sym (first_alone r s.lawful i z (omega arith)))
           (λ ne. let x = deeper 0 (omega arith) in let f = s.lawful.first (omega arith) in let a = leveled 0 (omega arith) in absurd (omega arith))
           (cases_eq i 0)
+
+      -- the levels before the element
+      abbrev before : List ℕ
+      before = take i s.levels.now
+
+      before_long : length before ≡ i
+      before_long = length-take-le i s.levels.now (omega arith)
+
+      pub previous_told : (q : ℕ) → (q < length before) × (get_or before q 0 ≤ v) × Deeper before v (q + 1) (length before) → then_some (eqb (at q) v) q ≡ previous_sibling_of r i
+      previous_told q f =
+          let l = before_long in
+          let p = get_or-take i s.levels.now q 0 (omega arith) in
+          previous_by q (omega arith) (omega arith) (λ j a b. let x = get_or-take i s.levels.now j 0 b in let y = f.2 j (omega arith) (omega arith) in omega arith)
+
+      pub no_previous_told : Deeper before v 0 (length before) → None ≡ previous_sibling_of r i
+      no_previous_told deeper =
+          let l = before_long in
+          no_previous_by (λ j a. let x = get_or-take i s.levels.now j 0 a in let y = deeper j (omega arith) (omega arith) in omega arith)
 
       -- The parent is the nearest earlier element whose level is one less.
       one_up : (q : ℕ) → q < i → at q + 1 ≡ v → ((j : ℕ) → q < j → j < i → at j + 1 ≡ v → ⊥) → Some q ≡ parent_of r i
@@ -138,12 +176,12 @@ module _ (s : Roll) where
               absurd (apart p f.1 (omega arith))
 
       pub parent_told : (u : ℕ) → v ≡ u + 1 → (o : Option ℕ)
-          → MatchOption o ((j : ℕ) → j < length (take i s.levels.now) → get_or (take i s.levels.now) j 0 ≢ u) (λ q. (q < length (take i s.levels.now)) × (get_or (take i s.levels.now) q 0 ≡ u) × ((j : ℕ) → q < j → j < length (take i s.levels.now) → get_or (take i s.levels.now) j 0 ≢ u))
+          → MatchOption o ((j : ℕ) → j < length before → get_or before j 0 ≢ u) (λ q. (q < length before) × (get_or before q 0 ≡ u) × ((j : ℕ) → q < j → j < length before → get_or before j 0 ≢ u))
           → o ≡ parent_of r i
       parent_told u up None none =
-          let l = length-take-le i s.levels.now (omega arith) in
+          let l = before_long in
           no_parent_told (λ j a e. let x = get_or-take i s.levels.now j 0 a in none j (omega arith) (omega arith))
       parent_told u up (Some q) f =
-          let l = length-take-le i s.levels.now (omega arith) in
+          let l = before_long in
           let y = get_or-take i s.levels.now q 0 (omega arith) in
           one_up q (omega arith) (omega arith) (λ j a b e. let x = get_or-take i s.levels.now j 0 b in f.2 j a (omega arith) (omega arith))

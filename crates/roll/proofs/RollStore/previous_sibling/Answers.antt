@@ -1,5 +1,4 @@
-use Rattle.std.proofs.Common.{rules, ◌∙◌, arith}
-use Rattle.std.proofs.lemmas.List.{get_or-take, length-take-le}
+use Rattle.std.proofs.Common.{rules, ◌∙◌}
 use Rattle.model.proofs.Bounds.{previous_bound}
 use Rattle.roll.specs.Held.{receipt_of}
 use Rattle.roll.proofs.Found.{beyond, no_previous_told, previous_told}
@@ -10,14 +9,9 @@ returns-in_err-level-clause-value c = c.from_residual.ensures ∙ beyond c.args.
 
 pub returns-in_err-at-clause-value : goal.returns-in_err-at-clause-value
 returns-in_err-at-clause-value c =
-    c.from_residual-in_err-at.ensures ∙ no_previous_told c.args.self.now c.args.rank (search rules) c.in_ok-level.field-0.now (search rules) (λ j a. search rules)
+    c.from_residual-in_err-at.ensures ∙ no_previous_told c.args.self.now c.args.rank (search rules) c.in_ok-level.field-0.now (search rules) c.in_err-at.ensures
 
 pub returns : goal.returns
 returns c =
-    let f = c.in_ok-at.ensures in
-    let i = c.args.rank in
-    let levels = c.args.self.now.levels.now in
-    let l = length-take-le i levels (search rules) in
-    let x = get_or-take i levels c.in_ok-at.at 0 (search rules) in
-    let e = c.then_some.ensures ∙ previous_told c.args.self.now c.args.rank (search rules) c.in_ok-level.field-0.now (search rules) c.in_ok-at.at (search rules) (omega arith) (λ j a b. let y = get_or-take i levels j 0 b in let z = f.2 j a (omega arith) in omega arith) in
+    let e = c.then_some.ensures ∙ previous_told c.args.self.now c.args.rank (search rules) c.in_ok-level.field-0.now (search rules) c.in_ok-at.at c.in_ok-at.ensures in
     record { value = e; bound = previous_bound (receipt_of c.args.self.now) c.args.rank _ e }
