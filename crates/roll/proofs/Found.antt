@@ -4,7 +4,7 @@ use Rattle.std.specs.Bool.{then_some}
 use Rattle.std.specs.List.{slice_get}
 use Rattle.std.specs.Option.{MatchOption, option_copied}
 use Rattle.std.specs.Slice.{IsItemAt}
-use Rattle.std.proofs.lemmas.List.{get_or-take, get_or-drop, length-take-le}
+use Rattle.std.proofs.lemmas.List.{get_or-take, get_or-drop, length-take-le, take_rest}
 use Rattle.std.proofs.lemmas.Bool.{cases_eq, cases_lt, le-ltb, ltb-true, ltb-false, eqb-true, eqb-false, cond-false}
 use Rattle.std.proofs.lemmas.Option.{slice_get-get_or, slice_get_past, slice_get_read}
 use Rattle.model.specs.Receipt.{Receipt, count_of, label_at, label_of, level_at, level_of, within, parent_of, first_child_of, next_sibling_of, previous_sibling_of}
@@ -20,8 +20,8 @@ either P true q t f = t refl
 either P false q t f = f refl
 
 -- What stands in the part of a list from k on.
-part : (xs : List ℕ) (k m j : ℕ) → k + m ≡ j → j < length xs → get_or (take (length xs - k) (drop k xs)) m 0 ≡ get_or xs j 0
-part xs k m j e h = get_or-take (length xs - k) (drop k xs) m 0 (omega arith) ∙ get_or-drop k xs m 0 ∙ ap (λ n. get_or xs n 0) e
+part : (xs : List ℕ) (k m j : ℕ) → k + m ≡ j → get_or (take (length xs - k) (drop k xs)) m 0 ≡ get_or xs j 0
+part xs k m j e = ap (λ ys. get_or ys m 0) (take_rest xs k) ∙ get_or-drop k xs m 0 ∙ ap (λ n. get_or xs n 0) e
 
 -- What `get` found.
 pub copied_got : (xs : List ℕ) (i : ℕ) (o : Option (Bor ℕ)) → IsItemAt xs i o → option_copied o ≡ slice_get xs i
@@ -103,19 +103,19 @@ module _ (s : Roll) where
       after = take (length s.levels.now - (i + 1)) (drop (i + 1) s.levels.now)
 
       after_long : length after ≡ length s.levels.now - (i + 1)
-      after_long = let d = length-drop (i + 1) s.levels.now in length-take-le (length s.levels.now - (i + 1)) (drop (i + 1) s.levels.now) (omega arith)
+      after_long = ap length (take_rest s.levels.now (i + 1)) ∙ length-drop (i + 1) s.levels.now
 
-      passed_after : (m : ℕ) → Deeper after v 0 m → (j : ℕ) → i < j → j < i + 1 + m → j < length s.levels.now → v < at j
-      passed_after m deeper j a b c = let p = part s.levels.now (i + 1) (j - (i + 1)) j (omega arith) c in let x = deeper (j - (i + 1)) (omega arith) (omega arith) in omega arith
+      passed_after : (m : ℕ) → Deeper after v 0 m → (j : ℕ) → i < j → j < i + 1 + m → v < at j
+      passed_after m deeper j a b = let p = part s.levels.now (i + 1) (j - (i + 1)) j (omega arith) in let x = deeper (j - (i + 1)) (omega arith) (omega arith) in omega arith
 
       pub next_told : (m : ℕ) → (m < length after) × (get_or after m 0 ≤ v) × Deeper after v 0 m → then_some (eqb (at (i + 1 + m)) v) (i + 1 + m) ≡ next_sibling_of r i
       next_told m f =
           let l = after_long in
-          let p = part s.levels.now (i + 1) m (i + 1 + m) refl (omega arith) in
-          next_by (i + 1 + m) (omega arith) (omega arith) (omega arith) (λ j a b. passed_after m f.2 j a b (omega arith))
+          let p = part s.levels.now (i + 1) m (i + 1 + m) refl in
+          next_by (i + 1 + m) (omega arith) (omega arith) (omega arith) (passed_after m f.2)
 
       pub no_next_told : Deeper after v 0 (length after) → None ≡ next_sibling_of r i
-      no_next_told deeper = let l = after_long in no_next_by (λ j a b. passed_after (length after) deeper j a (omega arith) b)
+      no_next_told deeper = let l = after_long in no_next_by (λ j a b. passed_after (length after) deeper j a (omega arith))
 
       -- The previous sibling is the last earlier element that is no deeper, if it is at the same level.
       previous_by : (q : ℕ) → q < i → at q ≤ v → ((j : ℕ) → q < j → j < i → v < at j) → then_some (eqb (at q) v) q ≡ previous_sibling_of r i

@@ -2,5 +2,5 @@ pub mod Elements
 pub mod First
 pub mod Found
 pub mod Split
-pub mod Kept
+pub mod Outcome
 pub mod Written

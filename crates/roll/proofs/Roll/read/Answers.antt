@@ -1,5 +1,5 @@
 use Rattle.std.proofs.Common.{rules, arith}
-use Rattle.roll.proofs.Kept.{reads_back, is_written}
+use Rattle.roll.proofs.Outcome.{reads_back, is_written}
 use Rattle.roll.proofs.Roll.read.Goals as goal
 
 pub returns-clause-back : goal.returns-clause-back

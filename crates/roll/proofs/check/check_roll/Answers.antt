@@ -1,5 +1,5 @@
 use Rattle.std.proofs.Common.{rules}
-use Rattle.roll.proofs.Kept.{applies}
+use Rattle.roll.proofs.Outcome.{applies}
 use Rattle.roll.proofs.check.check_roll.Goals as goal
 
 pub returns-in_err-split-clause-named : goal.returns-in_err-split-clause-named

@@ -1,7 +1,7 @@
 use Rattle.std.proofs.Common.{◌∙◌, subst}
 use Rattle.model.specs.Receipt.{Lawful}
 use Rattle.model.proofs.Readings.{accepted, accepted_lawful}
-use Rattle.roll.proofs.Kept.{fault_ok}
+use Rattle.roll.proofs.Outcome.{fault_ok}
 use Rattle.roll.proofs.read.RollTryFromRefSliceU8.try_from.Goals as goal
 
 pub invariant_of-result : goal.invariant_of-result

@@ -1,4 +1,4 @@
--- What the store over accepted bytes keeps, and what its reading says.
+-- What the reading of bytes says, from the fault that was found.
 use Rattle.std.proofs.Common.{◌≡◌, ℕ, ◌<◌, List, Some, None, Ok, Err, IfErr, Option, Result, sym, refl, ap, ◌∙◌, arith}
 use Rattle.model.specs.declared.fault.RollFault.{RollFault}
 use Rattle.model.specs.Receipt.{Receipt, Lawful}
