@@ -22,10 +22,10 @@ fn level_breaks(levels: &[u8], rank: usize) -> bool
     ensures { result ≡ level_wrong levels.now rank }
 {
     let level = levels[rank];
-    if rank == 0 {
-        return level != 0;
+    match rank.checked_sub(1) {
+        None => level != 0,
+        Some(before) => !(1..MOST_DEPTH).contains(&level) || level - 1 > levels[before],
     }
-    level == 0 || level - 1 > levels[rank - 1] || level >= MOST_DEPTH
 }
 
 // What a header with the right numbers is followed by.
@@ -89,7 +89,7 @@ impl<'a> Parts<'a> {
     {
         self.labels
             .iter()
-            .position(|label| *label == 0 || u16::from(*label) > MOST_LABEL)
+            .position(|label| !(1..=MOST_LABEL).contains(&u16::from(*label)))
     }
 
     // The greatest depth that fits the last level.
