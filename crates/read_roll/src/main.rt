@@ -41,10 +41,9 @@ fn print_receipt(rt: &impl Print, roll: &Roll) -> io::Result<()> {
 }
 
 fn tell(rt: &impl Print, bytes: &[u8]) -> io::Result<()> {
-    let roll = Roll::read(bytes);
-    match roll.fault() {
-        Some(fault) => print_refusal(rt, fault.refusal()),
-        None => print_receipt(rt, &roll),
+    match Roll::try_from(bytes) {
+        Ok(roll) => print_receipt(rt, &roll),
+        Err(fault) => print_refusal(rt, fault.refusal()),
     }
 }
 

@@ -40,11 +40,7 @@ impl Desk {
     fn close(&mut self, rt: &impl Print) -> io::Result<()> {
         let innermost = next_place(&self.till).parent;
         match self.till.close() {
-            Ok(()) => println!(rt;
-                "closed rank {}, depth {}",
-                OrDash(innermost),
-                self.till.depth()
-            ),
+            Ok(()) => println!(rt; "closed rank {}, depth {}", OrDash(innermost), self.till.depth()),
             Err(fault) => print_refusal(rt, fault.refusal()),
         }
     }
@@ -86,11 +82,10 @@ fn print_bytes(rt: &impl Print, bytes: &[u8]) -> io::Result<()> {
 
 // Reads a roll that was just written, and says whether it tells the till's receipt.
 fn read_back(rt: &impl Print, till: &Till, bytes: &[u8]) -> io::Result<()> {
-    let roll = Roll::read(bytes);
-    match roll.fault() {
-        Some(fault) => print_refusal(rt, fault.refusal()),
-        None if same_receipt(till, &roll) => println!(rt; "read back: the same receipt"),
-        None => println!(rt; "read back: another receipt"),
+    match Roll::try_from(bytes) {
+        Ok(roll) if same_receipt(till, &roll) => println!(rt; "read back: the same receipt"),
+        Ok(_) => println!(rt; "read back: another receipt"),
+        Err(fault) => print_refusal(rt, fault.refusal()),
     }
 }
 

@@ -1,3 +1,6 @@
-pub mod Copy
-pub mod Kept
-pub mod Back
+pub mod Elements
+pub mod First
+pub mod Found
+pub mod Split
+pub mod Outcome
+pub mod Written

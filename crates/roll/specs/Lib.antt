@@ -1,2 +1,4 @@
 pub mod Told
+pub mod Parts
+pub mod Deeper
 pub mod Held

@@ -1,96 +1,120 @@
 // The check of bytes that are to be read as a roll.
-ghost use Rattle.std.specs.Prelude.{◌≡◌, ◌+◌, ◌<◌, ◌≤◌, length, IfSome, IfErr};
+ghost use Rattle.std.specs.Prelude.{◌≡◌, [], ◌∷◌, ◌<◌, ◌≤◌, length, slice_index, IfOk, IfErr, Some};
 ghost use Rattle.model.specs.Receipt.{first_where};
-ghost use Rattle.model.specs.Reading.{Applies, count_in, foreign, greatest_depth, label_breaks, label_place, level_breaks, level_place, misplaced, outcome, reading_fault, two_bytes_at};
+ghost use Rattle.model.specs.Reading.{Applies, number_in, outcome, reading_fault, receipt_in, wrong_label, wrong_level};
+ghost use Rattle.roll.specs.Told.{told};
+ghost use Rattle.roll.specs.Parts.{fault_in, greatest_after, level_wrong};
 
 use crate::layout::{EDITION, HEADER_LENGTH};
 use model::fault::RollFault;
 use model::limits::{MOST_DEPTH, MOST_ELEMENTS, MOST_LABEL};
 
-// The number in the two bytes from a place on.
-pub(crate) fn two_bytes_at(bytes: &[u8], at: usize) -> usize
-    requires { at + 1 < length bytes.now }
-    ensures { result ≡ two_bytes_at bytes.now at }
+// The number in two bytes, the high byte first.
+fn number(high: u8, low: u8) -> usize
+    ensures { result ≡ number_in (high ∷ low ∷ []) }
 {
-    bytes[at] as usize * 256 + bytes[at + 1] as usize
-}
-
-fn is_foreign(bytes: &[u8]) -> bool
-    ensures { result ≡ foreign bytes.now }
-{
-    bytes.len() < HEADER_LENGTH || bytes[0] != EDITION
-}
-
-fn is_misplaced(bytes: &[u8], count: usize) -> bool
-    requires long { 8 ≤ length bytes.now }
-    requires count { count ≡ count_in bytes.now }
-    ensures { result ≡ misplaced bytes.now }
-{
-    count > MOST_ELEMENTS
-        || two_bytes_at(bytes, 4) != HEADER_LENGTH
-        || two_bytes_at(bytes, 6) != HEADER_LENGTH + count
-        || bytes.len() != HEADER_LENGTH + 2 * count
+    usize::from(u16::from_be_bytes([high, low]))
 }
 
 // Whether the level at a rank breaks its rule.
-fn level_breaks(bytes: &[u8], rank: usize) -> bool
-    requires { level_place rank < length bytes.now }
-    ensures { result ≡ level_breaks bytes.now rank }
+fn level_breaks(levels: &[u8], rank: usize) -> bool
+    requires { rank < length levels.now }
+    ensures { result ≡ level_wrong levels.now rank }
 {
-    let level = bytes[HEADER_LENGTH + rank];
-    if rank == 0 {
-        return level != 0;
+    let level = levels[rank];
+    match rank.checked_sub(1) {
+        None => level != 0,
+        Some(before) => !(1..MOST_DEPTH).contains(&level) || level - 1 > levels[before],
     }
-    let before = bytes[HEADER_LENGTH + (rank - 1)];
-    level == 0 || level - 1 > before || level >= MOST_DEPTH
 }
 
-// The first rank whose level breaks its rule.
-fn first_bad_level(bytes: &[u8], count: usize) -> Option<usize>
-    requires { level_place count ≤ length bytes.now }
-    ensures first { result ≡ first_where (level_breaks bytes.now) count }
-    ensures bound { IfSome result (λ rank. rank < count) }
-{
-    for rank in 0..count {
-        if level_breaks(bytes, rank) {
-            return Some(rank);
+// What a header with the right numbers is followed by.
+#[derive(Clone, Copy)]
+pub(crate) struct Parts<'a> {
+    pub(crate) depth: u8,
+    pub(crate) levels: &'a [u8],
+    pub(crate) labels: &'a [u8],
+    ghost paired: { length labels.now ≡ length levels.now },
+    ghost few: { length levels.now ≤ 256 },
+}
+
+impl<'a> Parts<'a> {
+    // The parts of bytes whose header and length are those of a roll.
+    pub(crate) fn split(bytes: &'a [u8]) -> Result<Parts<'a>, RollFault>
+        ensures ok { IfOk result (λ p. (reading_fault bytes.now ≡ fault_in p.levels.now p.labels.now p.depth) × (receipt_in bytes.now ≡ told p.levels.now p.labels.now p.depth)) }
+        ensures err { IfErr result (λ fault. reading_fault bytes.now ≡ Some fault) }
+    {
+        let [
+            EDITION,
+            depth,
+            count_high,
+            count_low,
+            levels_high,
+            levels_low,
+            labels_high,
+            labels_low,
+            body @ ..,
+        ] = bytes
+        else {
+            return Err(RollFault::NoRoll);
+        };
+        let count = number(*count_high, *count_low);
+        let levels_at = number(*levels_high, *levels_low);
+        let labels_at = number(*labels_high, *labels_low);
+        if count > MOST_ELEMENTS
+            || levels_at != HEADER_LENGTH
+            || labels_at != HEADER_LENGTH + count
+            || body.len() != 2 * count
+        {
+            return Err(RollFault::BadLayout);
         }
+        let (levels, labels) = body.split_at(count);
+        Ok(Parts {
+            depth: *depth,
+            levels,
+            labels,
+        })
     }
-    None
-}
 
-// Whether the label at a rank is 0 or too great.
-fn label_breaks(bytes: &[u8], count: usize, rank: usize) -> bool
-    requires { label_place count rank < length bytes.now }
-    ensures { result ≡ label_breaks bytes.now count rank }
-{
-    let label = bytes[HEADER_LENGTH + count + rank];
-    label == 0 || label as u16 > MOST_LABEL
-}
+    // The first rank whose level breaks its rule.
+    fn first_bad_level(&self) -> Option<usize>
+        ensures { result ≡ first_where (level_wrong self.now.levels.now) (length self.now.levels.now) }
+    {
+        (0..self.levels.len()).find(|rank| level_breaks(self.levels, *rank))
+    }
 
-// The first rank whose label is 0 or too great.
-fn first_bad_label(bytes: &[u8], count: usize) -> Option<usize>
-    requires { label_place count count ≤ length bytes.now }
-    ensures first { result ≡ first_where (label_breaks bytes.now count) count }
-    ensures bound { IfSome result (λ rank. rank < count) }
-{
-    for rank in 0..count {
-        if label_breaks(bytes, count, rank) {
-            return Some(rank);
+    // The first rank whose label is 0 or too great.
+    fn first_bad_label(&self) -> Option<usize>
+        ensures { result ≡ first_where (λ i. wrong_label (slice_index self.now.labels.now i)) (length self.now.labels.now) }
+    {
+        self.labels
+            .iter()
+            .position(|label| !(1..=MOST_LABEL).contains(&u16::from(*label)))
+    }
+
+    // The greatest depth that fits the last level.
+    fn greatest_depth(&self) -> usize
+        ensures { result ≡ greatest_after self.now.levels.now }
+    {
+        self.levels
+            .last()
+            .map_or(0, |level| usize::from(*level) + 1)
+    }
+
+    // Whether levels, labels and depth keep their rules, and if not, the first reason.
+    pub(crate) fn check(&self) -> Result<(), RollFault>
+        ensures { result ≡ outcome (fault_in self.now.levels.now self.now.labels.now self.now.depth) }
+    {
+        if let Some(rank) = self.first_bad_level() {
+            return Err(RollFault::BadLevel(HEADER_LENGTH + rank));
         }
-    }
-    None
-}
-
-// The greatest depth that fits the last level.
-fn greatest_depth(bytes: &[u8], count: usize) -> usize
-    requires { level_place count ≤ length bytes.now }
-    ensures { result ≡ greatest_depth bytes.now count }
-{
-    if count == 0 {
-        0
-    } else {
-        bytes[HEADER_LENGTH + (count - 1)] as usize + 1
+        if let Some(rank) = self.first_bad_label() {
+            return Err(RollFault::BadLabel(HEADER_LENGTH + self.levels.len() + rank));
+        }
+        if usize::from(self.depth) > self.greatest_depth() {
+            return Err(RollFault::BadDepth);
+        }
+        Ok(())
     }
 }
 
@@ -99,21 +123,5 @@ pub fn check_roll(bytes: &[u8]) -> Result<(), RollFault>
     ensures answers { result ≡ outcome (reading_fault bytes.now) }
     ensures named { IfErr result (λ fault. Applies bytes.now fault) }
 {
-    if is_foreign(bytes) {
-        return Err(RollFault::NoRoll);
-    }
-    let count = two_bytes_at(bytes, 2);
-    if is_misplaced(bytes, count) {
-        return Err(RollFault::BadLayout);
-    }
-    if let Some(rank) = first_bad_level(bytes, count) {
-        return Err(RollFault::BadLevel(HEADER_LENGTH + rank));
-    }
-    if let Some(rank) = first_bad_label(bytes, count) {
-        return Err(RollFault::BadLabel(HEADER_LENGTH + count + rank));
-    }
-    if bytes[1] as usize > greatest_depth(bytes, count) {
-        return Err(RollFault::BadDepth);
-    }
-    Ok(())
+    Parts::split(bytes)?.check()
 }

@@ -1,12 +1,11 @@
 // Rolls: the bytes by which a receipt is kept on paper, and the store over the bytes of one.
 #![tactic(auto)]
 
-ghost use Rattle.std.specs.Prelude.{◌≡◌, ◌≤◌};
-ghost use Rattle.model.specs.Receipt.{count_of};
-ghost use Rattle.model.specs.Rules.{Ends, Ranged, Stepped, lawfully};
-ghost use Rattle.roll.specs.Told.{Reads, Room, told};
+ghost use Rattle.std.specs.Prelude.{◌≡◌, length};
+ghost use Rattle.model.specs.Receipt.{Lawful};
+ghost use Rattle.roll.specs.Told.{told};
 
-use crate::layout::HEADER_LENGTH;
+use crate::scan::{first_no_deeper, last_no_deeper};
 use model::fault::RollFault;
 use store::Store;
 
@@ -19,26 +18,21 @@ pub mod write;
 // The receipt of bytes that were accepted; of bytes that were refused the empty one, and the reason.
 #[derive(Clone, Copy)]
 pub struct Roll<'a> {
-    bytes: &'a [u8],
-    count: usize,
+    levels: &'a [u8],
+    labels: &'a [u8],
     depth: u8,
     fault: Option<RollFault>,
-    ghost few: { count ≤ 256 },
-    ghost room: { Room bytes.now count },
-    ghost counted: { count_of (told bytes.now count depth) ≡ count },
-    ghost reads: { Reads bytes.now count depth },
-    ghost stepped: { Stepped (told bytes.now count depth) },
-    ghost ranged: { Ranged (told bytes.now count depth) },
-    ghost ends: { Ends (told bytes.now count depth) },
+    ghost paired: { length labels.now ≡ length levels.now },
+    ghost lawful: { Lawful (told levels.now labels.now depth) },
 }
 
 impl<'a> Store for Roll<'a> {
-    ghost receipt = { λ r. told r.bytes.now r.count r.depth };
+    ghost receipt = { λ r. told r.levels.now r.labels.now r.depth };
 
-    ghost lawful = { λ r. lawfully (told r.bytes.now r.count r.depth) r.count r.counted r.few r.stepped r.ranged r.ends };
+    ghost lawful = { λ r. r.lawful };
 
     fn count(&self) -> usize {
-        self.count
+        self.levels.len()
     }
 
     fn depth(&self) -> u8 {
@@ -46,72 +40,40 @@ impl<'a> Store for Roll<'a> {
     }
 
     fn label(&self, rank: usize) -> Option<u16> {
-        if rank < self.count {
-            Some(self.bytes[HEADER_LENGTH + self.count + rank] as u16)
-        } else {
-            None
-        }
+        self.labels.get(rank).map(|label| u16::from(*label))
     }
 
     fn level(&self, rank: usize) -> Option<u8> {
-        if rank < self.count {
-            Some(self.level_at(rank))
-        } else {
-            None
-        }
+        self.levels.get(rank).copied()
     }
 
+    // Back from the element, to the nearest one whose level is one less.
     fn parent(&self, rank: usize) -> Option<usize> {
-        if rank < self.count {
-            self.nearest_above(rank)
-        } else {
-            None
-        }
+        let above = self.levels.get(rank)?.checked_sub(1)?;
+        self.levels[..rank]
+            .iter()
+            .rposition(|level| *level == above)
     }
 
     // The element that comes next, if it is deeper.
     fn first_child(&self, rank: usize) -> Option<usize> {
-        if rank >= self.count {
-            return None;
-        }
+        let level = self.levels.get(rank)?;
         let next = rank + 1;
-        if next >= self.count {
-            return None;
-        }
-        if self.level_at(next) > self.level_at(rank) {
-            Some(next)
-        } else {
-            None
-        }
+        (self.levels.get(next)? > level).then_some(next)
     }
 
+    // On from the element, to the first one that is no deeper.
     fn next_sibling(&self, rank: usize) -> Option<usize> {
-        if rank >= self.count {
-            return None;
-        }
-        let at = self.next_no_deeper(rank);
-        if at >= self.count {
-            return None;
-        }
-        if self.level_at(at) == self.level_at(rank) {
-            Some(at)
-        } else {
-            None
-        }
+        let level = *self.levels.get(rank)?;
+        let next = rank + 1;
+        let at = next + first_no_deeper(&self.levels[next..], level)?;
+        (self.levels[at] == level).then_some(at)
     }
 
+    // Back from the element, to the last one that is no deeper.
     fn previous_sibling(&self, rank: usize) -> Option<usize> {
-        if rank >= self.count {
-            return None;
-        }
-        if rank == 0 {
-            return None;
-        }
-        let at = self.previous_no_deeper(rank);
-        if self.level_at(at) == self.level_at(rank) {
-            Some(at)
-        } else {
-            None
-        }
+        let level = *self.levels.get(rank)?;
+        let at = last_no_deeper(&self.levels[..rank], level)?;
+        (self.levels[at] == level).then_some(at)
     }
 }

@@ -1,37 +1,41 @@
 // Reading bytes as a roll.
 ghost use Rattle.std.specs.Prelude.{◌≡◌, Some, None};
 ghost use Rattle.model.specs.Receipt.{Receipt, Lawful, empty};
-ghost use Rattle.model.specs.Reading.{reading_fault, reading_of, receipt_in};
+ghost use Rattle.model.specs.Reading.{reading_fault, reading_of};
 ghost use Rattle.model.specs.Roll.{roll_of};
-ghost use Rattle.roll.specs.Held.{fault_of, receipt_of};
+ghost use Rattle.roll.specs.Held.{IsReading, fault_of, receipt_of};
 
 use crate::Roll;
-use crate::check::{check_roll, two_bytes_at};
+use crate::check::Parts;
 use model::fault::RollFault;
 
-impl<'a> Roll<'a> {
-    // The store over bytes that are a roll.
-    fn accepted(bytes: &'a [u8]) -> Roll<'a>
-        requires { reading_fault bytes.now ≡ None }
-        ensures fault { fault_of result ≡ None }
-        ensures tells { receipt_of result ≡ receipt_in bytes.now }
-    {
-        Roll {
-            bytes,
-            count: two_bytes_at(bytes, 2),
-            depth: bytes[1],
-            fault: None,
-        }
-    }
+// Bytes that are a roll, as the store over them; others are refused with the first reason.
+impl<'a> TryFrom<&'a [u8]> for Roll<'a> {
+    type Error = RollFault;
 
+    ghost try_from_gives = { λ bytes r. IsReading bytes.now r };
+
+    fn try_from(bytes: &'a [u8]) -> Result<Roll<'a>, RollFault> {
+        let parts = Parts::split(bytes)?;
+        parts.check()?;
+        Ok(Roll {
+            levels: parts.levels,
+            labels: parts.labels,
+            depth: parts.depth,
+            fault: None,
+        })
+    }
+}
+
+impl<'a> Roll<'a> {
     // An empty store, for bytes that are no roll.
-    fn refused(bytes: &'a [u8], fault: RollFault) -> Roll<'a>
+    fn refused(fault: RollFault) -> Roll<'a>
         ensures fault { fault_of result ≡ Some fault }
         ensures tells { receipt_of result ≡ empty }
     {
         Roll {
-            bytes,
-            count: 0,
+            levels: &[],
+            labels: &[],
             depth: 0,
             fault: Some(fault),
         }
@@ -44,9 +48,9 @@ impl<'a> Roll<'a> {
         ensures back { (s : Receipt) → Lawful s → bytes.now ≡ roll_of s → (fault_of result ≡ None) × (receipt_of result ≡ s) }
         ensures written { fault_of result ≡ None → bytes.now ≡ roll_of (receipt_of result) }
     {
-        match check_roll(bytes) {
-            Ok(()) => Roll::accepted(bytes),
-            Err(fault) => Roll::refused(bytes, fault),
+        match Roll::try_from(bytes) {
+            Ok(roll) => roll,
+            Err(fault) => Roll::refused(fault),
         }
     }
 

@@ -1,7 +1,7 @@
 // Writing the roll of any store's receipt into lent memory.
-ghost use Rattle.std.specs.Prelude.{◌≡◌, ℕ, ◌+◌, ◌*◌, ◌/◌, ◌%◌, ◌<◌, ◌≤◌, length, IfOk, slice_index};
-ghost use Rattle.model.specs.Receipt.{count_of, label_at, level_at};
-ghost use Rattle.model.specs.Roll.{header as header_bytes, memory_after, roll_length, roll_of, writing};
+ghost use Rattle.std.specs.Prelude.{◌≡◌, ℕ, ◌<◌, ◌≤◌, length, IfOk, slice_index};
+ghost use Rattle.model.specs.Receipt.{count_of};
+ghost use Rattle.model.specs.Roll.{header as header_bytes, memory_after, roll_length, writing};
 
 use crate::layout::{EDITION, HEADER_LENGTH};
 use model::fault::RollFault;
@@ -14,21 +14,13 @@ pub fn roll_length<S: Store>(store: &S) -> usize
     HEADER_LENGTH + 2 * store.count()
 }
 
-// The two bytes of a number, the high byte first.
-fn two_bytes(n: usize) -> (u8, u8)
-    ensures high { result.0 ≡ (n / 256) % 256 }
-    ensures low { result.1 ≡ n % 256 }
-{
-    (((n / 256) % 256) as u8, (n % 256) as u8)
-}
-
-fn header(depth: u8, count: usize) -> [u8; HEADER_LENGTH]
+fn header(depth: u8, count: u16) -> [u8; HEADER_LENGTH]
     requires { count ≤ 256 }
     ensures { result ≡ header_bytes depth count }
 {
-    let (count_high, count_low) = two_bytes(count);
-    let (levels_high, levels_low) = two_bytes(HEADER_LENGTH);
-    let (labels_high, labels_low) = two_bytes(HEADER_LENGTH + count);
+    let [count_high, count_low] = count.to_be_bytes();
+    let [levels_high, levels_low] = (HEADER_LENGTH as u16).to_be_bytes();
+    let [labels_high, labels_low] = (HEADER_LENGTH as u16 + count).to_be_bytes();
     [
         EDITION,
         depth,
@@ -41,43 +33,13 @@ fn header(depth: u8, count: usize) -> [u8; HEADER_LENGTH]
     ]
 }
 
-// The level byte of an element that is there.
-fn level_byte<S: Store>(store: &S, rank: usize) -> u8
-    requires { rank < count_of (S.receipt store.now) }
-    ensures { result ≡ level_at (S.receipt store.now) rank }
+// Writes a row of bytes, one for each rank.
+fn write_row<F: Fn(usize) -> u8>(row: &mut [u8], byte: F)
+    requires { (rank : ℕ) → rank < length row.old → F.pre byte rank }
+    ensures { (rank : ℕ) → rank < length row.old → F.post byte rank (slice_index row.new rank) }
 {
-    match store.level(rank) {
-        Some(level) => level,
-        None => 0,
-    }
-}
-
-// The label byte of an element that is there.
-fn label_byte<S: Store>(store: &S, rank: usize) -> u8
-    requires { rank < count_of (S.receipt store.now) }
-    ensures { result ≡ label_at (S.receipt store.now) rank }
-{
-    match store.label(rank) {
-        Some(label) => label as u8,
-        None => 0,
-    }
-}
-
-// The roll's byte at a place.
-fn roll_byte<S: Store>(store: &S, head: &[u8; HEADER_LENGTH], at: usize) -> u8
-    requires head { head.now ≡ header_bytes (S.receipt store.now).depth (count_of (S.receipt store.now)) }
-    requires at { at < roll_length (count_of (S.receipt store.now)) }
-    ensures { result ≡ slice_index (roll_of (S.receipt store.now)) at }
-{
-    let n = store.count();
-    if at < HEADER_LENGTH {
-        return head[at];
-    }
-    let rank = at - HEADER_LENGTH;
-    if rank < n {
-        level_byte(store, rank)
-    } else {
-        label_byte(store, rank - n)
+    for (rank, place) in row.iter_mut().enumerate() {
+        *place = byte(rank);
     }
 }
 
@@ -87,13 +49,20 @@ pub fn write_roll<S: Store>(store: &S, memory: &mut [u8]) -> Result<usize, RollF
     ensures leaves { memory.new ≡ memory_after (S.receipt store.now) memory.old }
     ensures bound { IfOk result (λ n. n ≤ length memory.old) }
 {
+    let count = store.count();
     let length = roll_length(store);
     if memory.len() < length {
         return Err(RollFault::ShortMemory);
     }
-    let head = header(store.depth(), store.count());
-    for at in 0..length {
-        memory[at] = roll_byte(store, &head, at);
-    }
+    let labels_at = HEADER_LENGTH + count;
+    memory[..HEADER_LENGTH].copy_from_slice(&header(store.depth(), count as u16));
+    write_row(
+        &mut memory[HEADER_LENGTH..labels_at],
+        |rank| store.level(rank).unwrap_or(0),
+    );
+    write_row(
+        &mut memory[labels_at..length],
+        |rank| store.label(rank).unwrap_or(0) as u8,
+    );
     Ok(length)
 }

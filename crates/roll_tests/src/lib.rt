@@ -65,8 +65,8 @@ mod tests {
     fn deep_reads_back(rt: HostRuntime) -> Result<(), Fail> {
         let mut till = Till::new();
         check_reads_back(&rt, &till)?;
-        for i in 0..16usize {
-            assert_eq!(rt; till.open(i as u16 + 1).is_ok(), true);
+        for label in 1..=16 {
+            assert_eq!(rt; till.open(label).is_ok(), true);
         }
         check_reads_back(&rt, &till)
     }
@@ -83,10 +83,7 @@ mod tests {
     }
 
     fn refusal_of(bytes: &[u8]) -> Option<Refusal> {
-        match Roll::read(bytes).fault() {
-            Some(fault) => Some(fault.refusal()),
-            None => None,
-        }
+        Roll::read(bytes).fault().map(|fault| fault.refusal())
     }
 
     fn refused(number: u8, place: usize) -> Option<Refusal> {
@@ -100,8 +97,8 @@ mod tests {
     // The worked roll with one byte changed.
     fn damaged(at: usize, byte: u8) -> Option<Refusal> {
         let mut bytes = WORKED;
-        if at < 22 {
-            bytes[at] = byte;
+        if let Some(place) = bytes.get_mut(at) {
+            *place = byte;
         }
         refusal_of(&bytes)
     }

@@ -1,23 +1,16 @@
-use Rattle.std.proofs.Common.{sym, arith}
-use Rattle.model.proofs.Siblings.{next_found, next_none}
+use Rattle.std.proofs.Common.{rules, ◌∙◌}
+use Rattle.model.proofs.Bounds.{next_bound}
 use Rattle.roll.specs.Held.{receipt_of}
-use Rattle.roll.proofs.Kept.{held_lawful}
+use Rattle.roll.proofs.Found.{beyond, no_next_told, next_told}
 use Rattle.roll.proofs.RollStore.next_sibling.Goals as goal
 
-pub returns-then-at-self : goal.returns-then-at-self
-returns-then-at-self c =
-    let n = c.args.self.now.counted in
-    let s = c.next_no_deeper-at.ensures in
-    record { value = sym (next_none (receipt_of c.args.self.now) (held_lawful c.args.self.now) c.args.rank c.next_no_deeper-at.result s.after (omega arith) s.passes (λ h. absurd (omega arith))); bound = tt }
+pub returns-in_err-level-clause-value : goal.returns-in_err-level-clause-value
+returns-in_err-level-clause-value c = c.from_residual.ensures ∙ beyond c.args.self.now c.args.rank _ (search rules)
 
-pub returns-then-level_at : goal.returns-then-level_at
-returns-then-level_at c =
-    let n = c.args.self.now.counted in
-    let s = c.next_no_deeper-at.ensures in
-    record { value = sym (next_found (receipt_of c.args.self.now) (held_lawful c.args.self.now) c.args.rank c.next_no_deeper-at.result s.after (omega arith) s.passes (omega arith)); bound = (s.after, omega arith) }
+pub returns-in_err-at-clause-value : goal.returns-in_err-at-clause-value
+returns-in_err-at-clause-value c = c.from_residual-in_err-at.ensures ∙ no_next_told c.args.self.now c.args.rank (search rules) c.in_ok-level.field-0.now (search rules) c.in_err-at.ensures
 
-pub returns-else-level_at : goal.returns-else-level_at
-returns-else-level_at c =
-    let n = c.args.self.now.counted in
-    let s = c.next_no_deeper-at.ensures in
-    record { value = sym (next_none (receipt_of c.args.self.now) (held_lawful c.args.self.now) c.args.rank c.next_no_deeper-at.result s.after (omega arith) s.passes (λ h. let x = s.stops h in omega arith)); bound = tt }
+pub returns : goal.returns
+returns c =
+    let e = c.then_some.ensures ∙ next_told c.args.self.now c.args.rank (search rules) c.in_ok-level.field-0.now (search rules) c.in_ok-at.field-0 c.in_ok-at.ensures in
+    record { value = e; bound = next_bound (receipt_of c.args.self.now) c.args.rank _ e }
