@@ -40,7 +40,11 @@ impl Desk {
     fn close(&mut self, rt: &impl Print) -> io::Result<()> {
         let innermost = next_place(&self.till).parent;
         match self.till.close() {
-            Ok(()) => println!(rt; "closed rank {}, depth {}", OrDash(innermost), self.till.depth()),
+            Ok(()) => println!(rt;
+                "closed rank {}, depth {}",
+                OrDash(innermost),
+                self.till.depth()
+            ),
             Err(fault) => print_refusal(rt, fault.refusal()),
         }
     }
