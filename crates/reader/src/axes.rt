@@ -1,5 +1,6 @@
 // Reading an axis off the front of a text.
-ghost use Rattle.std.specs.Prelude.{◌≡◌, ℕ, List, [], ◌++◌, codes};
+ghost use Rattle.std.specs.Prelude.{◌≡◌, ℕ, ◌≤◌, ◌==◌, List, [], ◌++◌, length, zip, codes};
+ghost use Rattle.std.specs.List.{prefix_len};
 ghost use Rattle.model.specs.Grammar.{axis_text};
 ghost use Rattle.grammar.specs.Machine.{Frame, State, axis, lits, after_p, test};
 ghost use Rattle.reader.specs.Spells.{Spells, Forks, Names};
@@ -7,22 +8,26 @@ ghost use Rattle.reader.specs.Spells.{Spells, Forks, Names};
 use crate::draft::Stuck;
 use model::axis::Axis;
 
+// How many bytes at the front are those of `w`.
+fn agreeing(text: &[u8], w: &[u8]) -> usize
+    ensures within { result ≤ length text.now }
+    ensures count { result ≡ prefix_len (λ x. x.0 == x.1) (zip text.now w.now) }
+{
+    text.iter().zip(w).take_while(|(b, c)| *b == *c).count()
+}
+
 // The bytes of `w`.
 pub fn word<'a>(text: &'a [u8], w: &[u8]) -> Result<&'a [u8], Stuck>
     ensures { Spells w.now text.now result }
 {
-    let mut left = text;
-    let mut due = w;
-    'bytes: while let [c, more @ ..] = due {
-        match left {
-            [b, rest @ ..] if *b == *c => {
-                left = rest;
-                due = more;
-            }
-            _ => return Err(Stuck { left: left.len() }),
-        }
+    let same = agreeing(text, w);
+    if same == w.len() {
+        Ok(&text[same..])
+    } else {
+        Err(Stuck {
+            left: text.len() - same,
+        })
     }
-    Ok(left)
 }
 
 // The rest of an axis that is settled.

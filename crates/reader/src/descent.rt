@@ -1,4 +1,7 @@
 // Recursive descent over paths, steps and filters. Each reader takes a tree off the front of the text and drafts its parts.
+ghost use Rattle.std.specs.Prelude.{◌≡◌, ◌≤◌, length};
+ghost use Rattle.std.specs.List.{prefix_len};
+ghost use Rattle.model.specs.Names.{is_name_byte};
 ghost use Rattle.reader.specs.Parsed.{NameRead, TestRead, StepRead, PathRead, SpineRead, FilterRead, AtomRead, JoinsRead, WordRead, Shut};
 ghost use Rattle.grammar.specs.Machine.{bracket, paren};
 
@@ -17,23 +20,26 @@ pub enum Word {
     Or,
 }
 
+// How many bytes of a name are at the front.
+fn name_bytes(text: &[u8]) -> usize
+    ensures within { result ≤ length text.now }
+    ensures count { result ≡ prefix_len is_name_byte text.now }
+{
+    text.iter().take_while(|b| is_name_byte(**b)).count()
+}
+
 // At most `room` further bytes of a name.
 fn name_rest(text: &[u8], room: usize) -> Result<&[u8], Stuck>
     ensures { NameRead room text.now result }
 {
-    let mut left = text;
-    let mut spare = room;
-    'bytes: while let [b, rest @ ..] = left {
-        if !is_name_byte(*b) {
-            return Ok(left);
-        }
-        if spare == 0 {
-            return Err(Stuck { left: left.len() });
-        }
-        left = rest;
-        spare -= 1;
+    let used = name_bytes(text);
+    if used <= room {
+        Ok(&text[used..])
+    } else {
+        Err(Stuck {
+            left: text.len() - room,
+        })
     }
-    Ok(left)
 }
 
 // "*" or a name.
