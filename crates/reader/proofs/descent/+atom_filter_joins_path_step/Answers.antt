@@ -75,7 +75,7 @@ joins-returns-in_ok-rest-in-And g t c =
 pub joins-returns-in_ok-rest-in-Or : goal.joins-returns-in_ok-rest-in-Or
 joins-returns-in_ok-rest-in-Or g t c =
     let h = c.in_ok-word-in-32.ensures in
-    joins_or (g.N.Naming.labels c.args.names.now) c.args.waiting c.args.text.now _ c.in_ok-word-in-32.next.now c.in_ok-rest-in-Or.rest.now c.args.draft.now c.close.new.draft _ _ c.root-left-in-Or.result c.joins-in-Or.result (front c.args.text.now 32 (search rules) (search rules))
+    joins_or (g.N.Naming.labels c.args.names.now) c.args.waiting c.args.text.now _ c.in_ok-word-in-32.next.now c.in_ok-rest-in-Or.rest.now c.args.draft.now c.close.new.self _ _ c.root-left-in-Or.result c.joins-in-Or.result (front c.args.text.now 32 (search rules) (search rules))
     (h.0 ∙ ap (λ (w : Word). word (join_of w) ++ c.in_ok-word-in-32.next.now) c.in-Or.is) h.1 c.close.ensures c.root-left-in-Or.ensures (from_draft c.count-in-Or.ensures c.in_ok-rest-in-Or.ensures) c.joins-in-Or.ensures
 
 pub joins-returns-in_default : goal.joins-returns-in_default
@@ -117,7 +117,7 @@ step-returns-in_err-end-in-91 g t c =
 pub step-returns-in_ok-end-in-91 : goal.step-returns-in_ok-end-in-91
 step-returns-in_ok-end-in-91 g t c =
     step_held (g.N.Naming.labels c.args.names.now) c.in_ok-axis.axis c.args.text.now c.in_ok-axis.more.now c.in_ok-rest.rest.now c.args.draft.now c.test.new.draft c.in_ok-axis.ensures.0 c.in_ok-axis.ensures.1 (from_draft c.count.ensures c.in_ok-rest.ensures) _ c.in_ok-after-in-91.after.now c.in_ok-end-in-91.end.now _ _ (front c.in_ok-rest.rest.now 91 (search rules) (search rules)) (from_draft c.enter.ensures c.in_ok-after-in-91.ensures) c.in_ok-end-in-91.ensures
-    (c.join.ensures ∙ ap (λ (l : ℕ). joined_to Filtered l c.leave.new.draft) c.root-here.ensures ∙ ap (joined_to Filtered (root c.test.new.draft)) c.leave.ensures)
+    (c.join.ensures ∙ ap (λ (l : ℕ). joined_to Filtered l c.leave.new.self) c.root-here.ensures ∙ ap (joined_to Filtered (root c.test.new.draft)) c.leave.ensures)
 
 pub step-returns-in_default : goal.step-returns-in_default
 step-returns-in_default g t c =
