@@ -14,7 +14,7 @@ use Rattle.grammar.proofs.Chains.{mk_ors, ors_is}
 use Rattle.names.specs.Labels.{Labels}
 use Rattle.reader.specs.declared.draft.Stuck.{Stuck}
 use Rattle.reader.specs.declared.draft.Draft.{Draft}
-use Rattle.table.specs.declared.part.Tag.TheVariants.{Any, Filtered, Then, Along, And, Not, Step}
+use Rattle.table.specs.declared.part.Tag.TheVariants.{Filtered, Then, Along, And, Not, Step}
 use Rattle.reader.specs.Spells.{Takes, Stops}
 use Rattle.reader.specs.Drafts.{part, added, counted, entered, exited, root, joined_to, reached, closed, labelled, joining, enclosed, test_drafted, step_axis, step_drafted, path_drafted, or_drafted, and_drafted, atom_drafted, linked, spine_drafted, joins_drafted}
 use Rattle.reader.specs.Parsed.{Parsed, inside, NameRead, PathRead, SpineRead, FilterRead, AtomRead, JoinsRead, Shut}
@@ -28,21 +28,8 @@ pub takes_via : {X Y : Type 0} (from to : X → State) (via onto : Y → State) 
 takes_via from to via onto f text more rest h e k d = record { falls = omega (arith, d.falls); goes = λ x. e x ∙ d.goes (f x) ∙ ap (λ (s : State). run s rest) (k x) }
 
 -- Words.
-pub word_read : (w : Join) (b : ℕ) (v text more rest : List ℕ) → text ≡ b ∷ more → word w ≡ b ∷ v → ((fs : List Frame) (t : List ℕ) → run (joint fs) (b ∷ t) ≡ run (lits v (atom fs)) t) → more ≡ v ++ rest → Takes (lits v) (λ (s : State). s) more rest → (text ≡ word w ++ rest) × Takes joint atom text rest
-word_read w b v text more rest e h o k d = (
-  e ∙ ap (λ (y : List ℕ). b ∷ y) k ∙ sym (ap (λ (y : List ℕ). y ++ rest) h),
-  takes_via joint atom (lits v) (λ (s : State). s) atom text more rest (omega (arith, ap length e)) (λ fs. ap (run (joint fs)) e ∙ o fs more) (λ fs. refl) d,
-)
-
 pub word_stops : (b : ℕ) (v text more : List ℕ) (left : ℕ) → text ≡ b ∷ more → ((fs : List Frame) (t : List ℕ) → run (joint fs) (b ∷ t) ≡ run (lits v (atom fs)) t) → Stops (lits v) more left → Stops joint text left
 word_stops b v text more left e o d = stops_via joint (lits v) atom text more left (omega (arith, ap length e)) (λ fs. ap (run (joint fs)) e ∙ o fs more) d
-
-pub no_word : (text : List ℕ) → IsNot text 97 → IsNot text 111 → Stops joint text (length text)
-no_word [] m n = record { fits = omega arith; halts = λ fs. refl }
-no_word (b ∷ t) m n = record { fits = omega arith; halts = λ fs. ap (go_on t) (dies fs) }
-  where
-    dies : (fs : List Frame) → on (joint fs) b ≡ dead
-    dies fs = simp (ne_eqb b 97 (m (omega arith)), ne_eqb b 111 (n (omega arith)))
 
 -- Names.
 on_name_lem : (k : ℕ) (b : ℕ) (t : List ℕ) (fs : List Frame) → is_name_byte b ≡ true → run (name (suc k) fs) (b ∷ t) ≡ run (name k fs) t
@@ -72,9 +59,6 @@ on_letter b t fs e =
     let n : eqb b 42 ≡ false = ne_eqb b 42 (λ q. false≢true (sym (ap is_letter q) ∙ e)) in
     ap (λ (v : Bool). go_on t (cond v (go (held fs)) (cond (is_letter b) (go (name 23 fs)) dead))) n ∙ ap (λ (v : Bool). go_on t (cond v (go (name 23 fs)) dead)) e
 
-pub star_read : (labels : Labels) (text rest : List ℕ) (old new : Draft) → text ≡ 42 ∷ rest → new ≡ added (part Any 0 0) old → Parsed test_text (test_drafted labels) test held text rest old new
-star_read labels text rest old new e m = record { tree = star; reads = e; made = m; takes = record { falls = omega (arith, ap length e); goes = λ fs. ap (run (test fs)) e } }
-
 pub name_stops : (b : ℕ) (text more : List ℕ) (left : ℕ) → text ≡ b ∷ more → is_letter b ≡ true → Stops (name 23) more left → Stops test text left
 name_stops b text more left e l d = stops_via test (name 23) (λ (fs : List Frame). fs) text more left (omega (arith, ap length e)) (λ fs. ap (run (test fs)) e ∙ on_letter b more fs l) d
 
@@ -88,13 +72,6 @@ name_read labels b u text more rest old new e l h k d m =
       made = m ∙ ap (λ (y : List ℕ). labelled (labels y) (length text) old) w ∙ ap (λ (y : List ℕ). labelled (labels (b ∷ u)) (length y) old) z;
       takes = takes_via test held (name 23) held (λ (fs : List Frame). fs) text more rest (omega (arith, ap length e)) (λ fs. ap (run (test fs)) e ∙ on_letter b more fs l) (λ fs. refl) d;
     }
-
-pub no_test : (text : List ℕ) → IsNot text 42 → (1 ≤ length text → is_letter (get_or text 0 0) ≡ false) → Stops test text (length text)
-no_test [] m n = record { fits = omega arith; halts = λ fs. refl }
-no_test (b ∷ t) m n = record { fits = omega arith; halts = λ fs. ap (go_on t) (dies fs) }
-  where
-    dies : (fs : List Frame) → on (test fs) b ≡ dead
-    dies fs = simp (ne_eqb b 42 (m (omega arith)), n (omega arith))
 
 -- What a byte that is not read says.
 first_is_not : (t : List ℕ) (b : ℕ) → eqb 0 b ≡ false → IsNot t b → No t b
@@ -308,9 +285,6 @@ ands_joins labels (joined by_and a j) x rest d =
     ands_joins labels j (and x a) rest d ∙ sym (ap (λ (y : List ℕ). joins_drafted labels None (joined by_and a j) rest (and_drafted labels x y d)) (joins_text_assoc by_and a j rest))
 ands_joins labels (joined by_or a j) x rest d =
     or_joins labels j (ands x) (g.atom a) rest d ∙ sym (ap (λ (y : List ℕ). joins_drafted labels None (joined by_or a j) rest (and_drafted labels x y d)) (joins_text_assoc by_or a j rest))
-
-pub filter_stops : (text : List ℕ) (left : ℕ) → Stops atom text left → Stops (inside atom) text left
-filter_stops text left d = stops_via (inside atom) atom (λ (x : Frame × List Frame). x.0 ∷ x.1) text text left (omega arith) (λ x. refl) d
 
 pub filter_read : (labels : Labels) (text rest : List ℕ) (old d1 d2 : Draft) (r : Result (Bor (List ℕ)) Stuck) → ParsedAtom labels text rest old d1 → JoinsRead labels None rest d1 d2 r → FilterRead labels text old d2 r
 filter_read labels text rest old d1 d2 (Ok end) a j =

@@ -4,8 +4,8 @@ use Rattle.std.proofs.lemmas.List.{take_rest}
 use Rattle.reader.specs.declared.draft.Stuck.{Stuck}
 use Rattle.model.specs.declared.axis.Axis.{Axis}
 use Rattle.model.specs.Grammar.{axis_text}
-use Rattle.grammar.specs.Machines.{dead, go, taken, stops}
-use Rattle.grammar.specs.Machine.{Frame, State, lit, lits, axis, after_p, test, on, run}
+use Rattle.grammar.specs.Machines.{dead, go}
+use Rattle.grammar.specs.Machine.{Frame, State, lit, lits, test, run}
 use Rattle.reader.specs.Spells.{Takes, Stops, Spells, Forks, Names}
 use Rattle.grammar.proofs.Forward.{go_on}
 
@@ -46,9 +46,6 @@ names_after s p w text rest (Ok r) e d (k, h) =
     (ap (λ (y : List ℕ). p ++ y) e ∙ sym (append_assoc p w rest) ∙ k, record { falls = omega (arith, d.falls, h.falls); goes = λ fs. d.goes (s fs) ∙ h.goes fs })
 names_after s p w text rest (Err x) e d h = record { fits = omega (arith, d.falls, h.fits); halts = λ fs. d.goes (s fs) ∙ h.halts fs }
 
-pub names_settled : (p w text : List ℕ) (a : Axis) (rest : Bor (List ℕ)) → text ≡ w ++ rest.now → Takes (lits w) (λ (x : State). x) text rest.now → axis_text a ≡ p ++ w → Names (λ fs. lits w (test fs)) p text (Ok (a, rest))
-names_settled p w text a rest e d h = names_after test p w text rest.now (Ok (a, rest)) e d (ap (λ (y : List ℕ). y ++ rest.now) (sym h), record { falls = omega arith; goes = λ fs. refl })
-
 -- what follows the bytes p and w
 module _ (p w : List ℕ) (plain : Axis) (end : List ℕ) (long : Axis) (s : List Frame → State) (f : Forks p w plain end long s) where
   pub names_plain : (text more : List ℕ) (r : Result (Axis × Bor (List ℕ)) Stuck) → text ≡ 58 ∷ more → ((q : List ℕ) → axis_text plain ≡ q ++ codes ":" → Names (λ fs. lits (codes ":") (test fs)) q more r) → Names s (p ++ w) text r
@@ -56,24 +53,3 @@ module _ (p w : List ℕ) (plain : Axis) (end : List ℕ) (long : Axis) (s : Lis
 
   pub names_long : (text more : List ℕ) (r : Result (Axis × Bor (List ℕ)) Stuck) → text ≡ 45 ∷ more → ((q : List ℕ) → axis_text long ≡ q ++ end → Names (λ fs. lits end (test fs)) q more r) → Names s (p ++ w) text r
   names_long text more r e k = names_names s (λ fs. lits end (test fs)) (p ++ w) 45 text more r e (λ fs t. ap (go_on t) (f.moves fs 45)) (k ((p ++ w) ++ (45 ∷ [])) (f.at_length ∙ sym (append_assoc (p ++ w) (45 ∷ []) end)))
-
-  pub no_fork : (text : List ℕ) → Not text 58 → Not text 45 → Stops s text (length text)
-  no_fork [] m n = record { fits = omega arith; halts = λ fs. ap (λ (v : Bool). cond v taken (stops 0)) (f.unended fs) }
-  no_fork (b ∷ t) m n = record { fits = omega arith; halts = λ fs. ap (go_on t) (dies fs) }
-    where
-      dies : (fs : List Frame) → on (s fs) b ≡ dead
-      dies fs = rw (f.moves fs b) (simp (ne_eqb b 58 (m (omega arith)), ne_eqb b 45 (n (omega arith))))
-
-pub no_after_p : (text : List ℕ) → Not text 97 → Not text 114 → Stops after_p text (length text)
-no_after_p [] m n = record { fits = omega arith; halts = λ fs. refl }
-no_after_p (b ∷ t) m n = record { fits = omega arith; halts = λ fs. ap (go_on t) (dies fs) }
-  where
-    dies : (fs : List Frame) → on (after_p fs) b ≡ dead
-    dies fs = simp (ne_eqb b 97 (m (omega arith)), ne_eqb b 114 (n (omega arith)))
-
-pub no_axis : (text : List ℕ) → Not text 115 → Not text 99 → Not text 112 → Not text 100 → Not text 97 → Not text 102 → Stops axis text (length text)
-no_axis [] i j k l m n = record { fits = omega arith; halts = λ fs. refl }
-no_axis (b ∷ t) i j k l m n = record { fits = omega arith; halts = λ fs. ap (go_on t) (dies fs) }
-  where
-    dies : (fs : List Frame) → on (axis fs) b ≡ dead
-    dies fs = simp (ne_eqb b 115 (i (omega arith)), ne_eqb b 99 (j (omega arith)), ne_eqb b 112 (k (omega arith)), ne_eqb b 100 (l (omega arith)), ne_eqb b 97 (m (omega arith)), ne_eqb b 102 (n (omega arith)))

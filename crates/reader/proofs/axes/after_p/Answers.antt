@@ -1,6 +1,6 @@
 use Rattle.std.proofs.Common.{codes, refl, rules}
 use Rattle.grammar.specs.Machine.{after_p, or_sibling, test, lits}
-use Rattle.reader.proofs.Moves.{front, names_names, no_after_p}
+use Rattle.reader.proofs.Moves.{front, names_names}
 use Rattle.reader.proofs.axes.after_p.Goals as goal
 
 pub returns-in-97 : goal.returns-in-97
@@ -11,6 +11,3 @@ pub returns-in-114 : goal.returns-in-114
 returns-in-114 c =
     names_names after_p (λ fs. lits (codes "eceding") (or_sibling fs)) (codes "p") 114 c.args.text.now _ c.either.result (front c.args.text.now 114 (search rules) (search rules)) (λ fs t. refl)
     (c.either.ensures (codes "pr") or_sibling (search rules))
-
-pub returns-in_default : goal.returns-in_default
-returns-in_default c = no_after_p c.args.text.now (search rules) (search rules)

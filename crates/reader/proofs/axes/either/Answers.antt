@@ -1,5 +1,5 @@
-use Rattle.std.proofs.Common.{length, Err, rules}
-use Rattle.reader.proofs.Moves.{front, names_after, names_plain, names_long, no_fork}
+use Rattle.std.proofs.Common.{rules}
+use Rattle.reader.proofs.Moves.{front, names_after, names_plain, names_long}
 use Rattle.reader.proofs.axes.either.Goals as goal
 
 pub returns-in-58 : goal.returns-in-58
@@ -13,9 +13,3 @@ returns-in-45 c = λ p s f.
     let x = c.in_ok-rest.rest.now in
     names_after s p c.args.w.now c.args.text.now x c.spelt-in-45.result c.in_ok-rest.ensures.0 c.in_ok-rest.ensures.1
     (names_long p c.args.w.now c.args.plain c.args.end.now c.args.long s f x _ c.spelt-in-45.result (front x 45 (search rules) (search rules)) c.spelt-in-45.ensures)
-
-pub returns-in_default : goal.returns-in_default
-returns-in_default c = λ p s f.
-    let x = c.in_ok-rest.rest.now in
-    names_after s p c.args.w.now c.args.text.now x (Err (record { left = length x })) c.in_ok-rest.ensures.0 c.in_ok-rest.ensures.1
-    (no_fork p c.args.w.now c.args.plain c.args.end.now c.args.long s f x (search rules) (search rules))

@@ -1,6 +1,6 @@
 use Rattle.std.proofs.Common.{[], codes, refl, rules}
-use Rattle.grammar.specs.Machine.{axis, after_p, or_self, or_sibling, test, lits}
-use Rattle.reader.proofs.Moves.{front, names_names, no_axis}
+use Rattle.grammar.specs.Machine.{axis, or_self, or_sibling, test, lits}
+use Rattle.reader.proofs.Moves.{front, names_names}
 use Rattle.reader.proofs.axes.read_axis.Goals as goal
 
 pub returns-in-115 : goal.returns-in-115
@@ -10,10 +10,6 @@ returns-in-115 c =
 pub returns-in-99 : goal.returns-in-99
 returns-in-99 c =
     names_names axis (λ fs. lits (codes "hild::") (test fs)) [] 99 c.args.text.now _ c.spelt-in-99.result (front c.args.text.now 99 (search rules) (search rules)) (λ fs t. refl) (c.spelt-in-99.ensures (codes "c") refl)
-
-pub returns-in-112 : goal.returns-in-112
-returns-in-112 c =
-    names_names axis after_p [] 112 c.args.text.now _ c.after_p.result (front c.args.text.now 112 (search rules) (search rules)) (λ fs t. refl) c.after_p.ensures
 
 pub returns-in-100 : goal.returns-in-100
 returns-in-100 c =
@@ -29,6 +25,3 @@ pub returns-in-102 : goal.returns-in-102
 returns-in-102 c =
     names_names axis (λ fs. lits (codes "ollowing") (or_sibling fs)) [] 102 c.args.text.now _ c.either-in-102.result (front c.args.text.now 102 (search rules) (search rules)) (λ fs t. refl)
     (c.either-in-102.ensures (codes "f") or_sibling (search rules))
-
-pub returns-in_default : goal.returns-in_default
-returns-in_default c = no_axis c.args.text.now (search rules) (search rules) (search rules) (search rules) (search rules) (search rules)

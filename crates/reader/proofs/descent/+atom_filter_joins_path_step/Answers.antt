@@ -1,14 +1,12 @@
-use Rattle.std.proofs.Common.{ℕ, List, ◌++◌, length, ap, ◌∙◌, rules}
+use Rattle.std.proofs.Common.{ℕ, ◌++◌, length, ap, ◌∙◌, rules}
 use Rattle.std.proofs.lemmas.Result.{err_from_is_err_and}
-use Rattle.grammar.specs.Machine.{axis, test}
-use Rattle.grammar.specs.Machine.{Frame}
 use Rattle.grammar.specs.Joins.{word}
 use Rattle.reader.specs.declared.descent.Word.{Word}
 use Rattle.table.specs.declared.part.Tag.TheVariants.{Filtered, Then, And, Not}
 use Rattle.reader.specs.Drafts.{entered, root, joined_to, reached}
 use Rattle.reader.specs.Parsed.{join_of}
 use Rattle.reader.proofs.Moves.{front}
-use Rattle.reader.proofs.Compose.{from_draft, stops_via, step_bare, step_stops_inside, step_stops_open, step_held, path_one, path_stops, path_slash, atom_along, parens_stop, parens_read, not_stops, not_stops_open, not_read, not_word_stops, filter_stops, filter_read, joins_end, joins_word_stops, joins_atom_stops, joins_and, joins_or}
+use Rattle.reader.proofs.Compose.{from_draft, step_bare, step_stops_inside, step_stops_open, step_held, path_one, path_stops, path_slash, atom_along, parens_stop, parens_read, not_stops, not_stops_open, not_read, not_word_stops, filter_read, joins_end, joins_word_stops, joins_atom_stops, joins_and, joins_or}
 use Rattle.reader.proofs.descent.+atom_filter_joins_path_step.Goals as goal
 
 pub atom-returns-in_err-rest-in-40 : goal.atom-returns-in_err-rest-in-40
@@ -41,11 +39,6 @@ atom-returns-in_ok-end-in-110 g t c =
 
 pub atom-returns-in_default : goal.atom-returns-in_default
 atom-returns-in_default g t c = atom_along (g.N.Naming.labels c.args.names.now) c.args.text.now _ _ c.path.result (search rules) (search rules) c.path.ensures
-
-pub filter-returns-in_err-rest : goal.filter-returns-in_err-rest
-filter-returns-in_err-rest g t c =
-    let p = err_from_is_err_and c.from_residual.result c.from_residual.ensures.1 in
-    rw (p.1, p.2) (filter_stops c.args.text.now _ c.in_err-rest.ensures)
 
 pub filter-returns : goal.filter-returns
 filter-returns g t c = filter_read (g.N.Naming.labels c.args.names.now) c.args.text.now c.in_ok-rest.rest.now _ _ _ c.joins.result c.in_ok-rest.ensures c.joins.ensures
@@ -96,12 +89,6 @@ pub path-returns-in_default : goal.path-returns-in_default
 path-returns-in_default g t c =
     let s = c.in_ok-axis.ensures in
     path_one (g.N.Naming.labels c.args.names.now) c.in_ok-axis.axis c.args.text.now c.in_ok-axis.rest.now c.args.draft.now c.step.new.draft s.0 s.1 _ (search rules) c.over-in_default.ensures
-
-pub step-returns-in_err-rest : goal.step-returns-in_err-rest
-step-returns-in_err-rest g t c =
-    let p = err_from_is_err_and c.from_residual-in_err-rest.result c.from_residual-in_err-rest.ensures.1 in
-    let a = c.in_ok-axis.ensures.1 in
-    rw (p.1, p.2) (stops_via axis test (λ (fs : List Frame). fs) c.args.text.now c.in_ok-axis.more.now _ a.falls a.goes c.in_err-rest.ensures)
 
 pub step-returns-in_err-after-in-91 : goal.step-returns-in_err-after-in-91
 step-returns-in_err-after-in-91 g t c =
