@@ -9,11 +9,11 @@ pub returns-in_err-rest-in-len1-up : goal.returns-in_err-rest-in-len1-up
 returns-in_err-rest-in-len1-up g c =
     let p = err_from_is_err_and c.from_residual.result c.from_residual.ensures.1 in
     let x = c.args.text.now in
-    rw (p.1, p.2) (name_stops (get_or x 0 0) x _ _ (front x (get_or x 0 0) (search rules) (search rules)) (sym c.if-is_letter.ensures) c.in_err-rest-in-len1-up.ensures)
+    rw (p.1, p.2) (name_stops (get_or x 0 0) x _ _ (search (rules, front)) (sym c.if-is_letter.ensures) c.in_err-rest-in-len1-up.ensures)
 
 pub returns-in_ok-rest-in-len1-up : goal.returns-in_ok-rest-in-len1-up
 returns-in_ok-rest-in-len1-up g c =
     let x = c.args.text.now in
     let d = c.in_ok-rest-in-len1-up.ensures in
-    name_read (g.N.Naming.labels c.args.names.now) (get_or x 0 0) d.0 x _ c.in_ok-rest-in-len1-up.rest.now c.args.draft.now c.name.new.self (front x (get_or x 0 0) (search rules) (search rules)) (sym c.if-is_letter.ensures) d.1 d.2 d.3
+    name_read (g.N.Naming.labels c.args.names.now) (get_or x 0 0) d.0 x _ c.in_ok-rest-in-len1-up.rest.now c.args.draft.now c.name.new.self (search (rules, front)) (sym c.if-is_letter.ensures) d.1 d.2 d.3
     (c.name.ensures ∙ ap (λ (o : Option ℕ). labelled o (length x) c.args.draft.now) c.label-label.ensures)
