@@ -27,21 +27,21 @@ atom-returns-in_err-rest-in-110 g t c =
 pub atom-returns-in_err-end-in-110 : goal.atom-returns-in_err-end-in-110
 atom-returns-in_err-end-in-110 g t c =
     let p = err_from_is_err_and c.from_residual-in_err-end-in-110.result c.from_residual-in_err-end-in-110.ensures.1 in
-    rw (p.1, p.2) (not_stops_open c.args.text.now _ c.in_ok-inner-in-110.inner.now (search (rules, front)) c.in_ok-inner-in-110.ensures.0 c.in_ok-inner-in-110.ensures.1 (g.N.Naming.labels c.args.names.now) c.in_ok-rest-in-110.rest.now _ _ _ c.in_ok-rest-in-110.ensures c.in_err-end-in-110.ensures.0 c.in_err-end-in-110.ensures.1)
+    rw (p.1, p.2) (not_stops_open c.args.text.now _ c.in_ok-inner-in-110.inner.now (search (rules, front)) c.in_ok-inner-in-110.ensures.0 c.in_ok-inner-in-110.ensures.1 _ c.in_ok-rest-in-110.rest.now _ _ _ c.in_ok-rest-in-110.ensures c.in_err-end-in-110.ensures.0 c.in_err-end-in-110.ensures.1)
 
 pub atom-returns-in_ok-rest-in-40 : goal.atom-returns-in_ok-rest-in-40
 atom-returns-in_ok-rest-in-40 g t c =
-    parens_read (g.N.Naming.labels c.args.names.now) c.args.text.now _ c.in_ok-rest-in-40.rest.now _ _ _ c.shut.result (search (rules, front)) (from_draft c.enter.ensures c.in_ok-rest-in-40.ensures) c.leave.ensures c.shut.ensures
+    parens_read _ c.args.text.now _ c.in_ok-rest-in-40.rest.now _ _ _ c.shut.result (search (rules, front)) (from_draft c.enter.ensures c.in_ok-rest-in-40.ensures) c.leave.ensures c.shut.ensures
 
 pub atom-returns-in_ok-end-in-110 : goal.atom-returns-in_ok-end-in-110
 atom-returns-in_ok-end-in-110 g t c =
-    not_read c.args.text.now _ c.in_ok-inner-in-110.inner.now (search (rules, front)) c.in_ok-inner-in-110.ensures.0 c.in_ok-inner-in-110.ensures.1 (g.N.Naming.labels c.args.names.now) c.in_ok-rest-in-110.rest.now c.in_ok-end-in-110.end.now c.args.draft.now _ _ (from_draft (c.enter-in-110.ensures ∙ ap (entered (length c.in_ok-inner-in-110.inner.now)) c.count.ensures) c.in_ok-rest-in-110.ensures) c.in_ok-end-in-110.ensures (c.over.ensures ∙ ap (reached Not) c.leave-in-110.ensures)
+    not_read c.args.text.now _ c.in_ok-inner-in-110.inner.now (search (rules, front)) c.in_ok-inner-in-110.ensures.0 c.in_ok-inner-in-110.ensures.1 _ c.in_ok-rest-in-110.rest.now c.in_ok-end-in-110.end.now c.args.draft.now _ _ (from_draft (c.enter-in-110.ensures ∙ ap (entered (length c.in_ok-inner-in-110.inner.now)) c.count.ensures) c.in_ok-rest-in-110.ensures) c.in_ok-end-in-110.ensures (c.over.ensures ∙ ap (reached Not) c.leave-in-110.ensures)
 
 pub atom-returns-in_default : goal.atom-returns-in_default
-atom-returns-in_default g t c = atom_along (g.N.Naming.labels c.args.names.now) c.args.text.now _ _ c.path.result (search rules) (search rules) c.path.ensures
+atom-returns-in_default g t c = atom_along _ c.args.text.now _ _ c.path.result (search rules) (search rules) c.path.ensures
 
 pub filter-returns : goal.filter-returns
-filter-returns g t c = filter_read (g.N.Naming.labels c.args.names.now) c.args.text.now c.in_ok-rest.rest.now _ _ _ c.joins.result c.in_ok-rest.ensures c.joins.ensures
+filter-returns g t c = filter_read _ c.args.text.now c.in_ok-rest.rest.now _ _ _ c.joins.result c.in_ok-rest.ensures c.joins.ensures
 
 pub joins-returns-in_err-word-in-32 : goal.joins-returns-in_err-word-in-32
 joins-returns-in_err-word-in-32 g t c =
@@ -61,51 +61,51 @@ joins-returns-in_err-rest-in-Or g t c =
 pub joins-returns-in_ok-rest-in-And : goal.joins-returns-in_ok-rest-in-And
 joins-returns-in_ok-rest-in-And g t c =
     let h = c.in_ok-word-in-32.ensures in
-    joins_and (g.N.Naming.labels c.args.names.now) c.args.waiting c.args.text.now _ c.in_ok-word-in-32.next.now c.in_ok-rest-in-And.rest.now c.args.draft.now _ _ _ c.joins.result (search (rules, front))
+    joins_and _ c.args.waiting c.args.text.now _ c.in_ok-word-in-32.next.now c.in_ok-rest-in-And.rest.now c.args.draft.now _ _ _ c.joins.result (search (rules, front))
     (h.0 ∙ ap (λ (w : Word). word (join_of w) ++ c.in_ok-word-in-32.next.now) c.in-And.is) h.1 (from_draft c.count.ensures c.in_ok-rest-in-And.ensures)
     (c.join.ensures ∙ ap (λ (l : ℕ). joined_to And l c.atom.new.draft) c.root-left.ensures) c.joins.ensures
 
 pub joins-returns-in_ok-rest-in-Or : goal.joins-returns-in_ok-rest-in-Or
 joins-returns-in_ok-rest-in-Or g t c =
     let h = c.in_ok-word-in-32.ensures in
-    joins_or (g.N.Naming.labels c.args.names.now) c.args.waiting c.args.text.now _ c.in_ok-word-in-32.next.now c.in_ok-rest-in-Or.rest.now c.args.draft.now c.close.new.self _ _ c.root-left-in-Or.result c.joins-in-Or.result (search (rules, front))
+    joins_or _ c.args.waiting c.args.text.now _ c.in_ok-word-in-32.next.now c.in_ok-rest-in-Or.rest.now c.args.draft.now c.close.new.self _ _ c.root-left-in-Or.result c.joins-in-Or.result (search (rules, front))
     (h.0 ∙ ap (λ (w : Word). word (join_of w) ++ c.in_ok-word-in-32.next.now) c.in-Or.is) h.1 c.close.ensures c.root-left-in-Or.ensures (from_draft c.count-in-Or.ensures c.in_ok-rest-in-Or.ensures) c.joins-in-Or.ensures
 
 pub joins-returns-in_default : goal.joins-returns-in_default
-joins-returns-in_default g t c = joins_end (g.N.Naming.labels c.args.names.now) c.args.waiting c.args.text.now _ _ (search rules) c.close-in_default.ensures
+joins-returns-in_default g t c = joins_end _ c.args.waiting c.args.text.now _ _ (search rules) c.close-in_default.ensures
 
 pub path-returns-in_err-end-in-47 : goal.path-returns-in_err-end-in-47
 path-returns-in_err-end-in-47 g t c =
     let p = err_from_is_err_and c.from_residual-in_err-end-in-47.result c.from_residual-in_err-end-in-47.ensures.1 in
     let s = c.in_ok-axis.ensures in
-    rw (p.1, p.2) (path_stops (g.N.Naming.labels c.args.names.now) c.in_ok-axis.axis c.args.text.now c.in_ok-axis.rest.now c.args.draft.now c.step.new.draft s.0 s.1 _ _ (search (rules, front)) c.in_err-end-in-47.ensures)
+    rw (p.1, p.2) (path_stops _ c.in_ok-axis.axis c.args.text.now c.in_ok-axis.rest.now c.args.draft.now c.step.new.draft s.0 s.1 _ _ (search (rules, front)) c.in_err-end-in-47.ensures)
 
 pub path-returns-in_ok-end-in-47 : goal.path-returns-in_ok-end-in-47
 path-returns-in_ok-end-in-47 g t c =
     let s = c.in_ok-axis.ensures in
-    path_slash (g.N.Naming.labels c.args.names.now) c.in_ok-axis.axis c.args.text.now c.in_ok-axis.rest.now c.args.draft.now c.step.new.draft s.0 s.1 _ c.in_ok-end-in-47.end.now _ _ _ (search (rules, front)) c.in_ok-end-in-47.ensures (c.join.ensures ∙ ap (λ (l : ℕ). joined_to Then l c.path.new.draft) c.root-here.ensures) c.over.ensures
+    path_slash _ c.in_ok-axis.axis c.args.text.now c.in_ok-axis.rest.now c.args.draft.now c.step.new.draft s.0 s.1 _ c.in_ok-end-in-47.end.now _ _ _ (search (rules, front)) c.in_ok-end-in-47.ensures (c.join.ensures ∙ ap (λ (l : ℕ). joined_to Then l c.path.new.draft) c.root-here.ensures) c.over.ensures
 
 pub path-returns-in_default : goal.path-returns-in_default
 path-returns-in_default g t c =
     let s = c.in_ok-axis.ensures in
-    path_one (g.N.Naming.labels c.args.names.now) c.in_ok-axis.axis c.args.text.now c.in_ok-axis.rest.now c.args.draft.now c.step.new.draft s.0 s.1 _ (search rules) c.over-in_default.ensures
+    path_one _ c.in_ok-axis.axis c.args.text.now c.in_ok-axis.rest.now c.args.draft.now c.step.new.draft s.0 s.1 _ (search rules) c.over-in_default.ensures
 
 pub step-returns-in_err-after-in-91 : goal.step-returns-in_err-after-in-91
 step-returns-in_err-after-in-91 g t c =
     let p = err_from_is_err_and c.from_residual-in_err-after-in-91.result c.from_residual-in_err-after-in-91.ensures.1 in
-    rw (p.1, p.2) (step_stops_inside (g.N.Naming.labels c.args.names.now) c.in_ok-axis.axis c.args.text.now c.in_ok-axis.more.now c.in_ok-rest.rest.now c.args.draft.now c.test.new.draft c.in_ok-axis.ensures.0 c.in_ok-axis.ensures.1 (from_draft c.count.ensures c.in_ok-rest.ensures) _ _ (search (rules, front)) c.in_err-after-in-91.ensures)
+    rw (p.1, p.2) (step_stops_inside _ c.in_ok-axis.axis c.args.text.now c.in_ok-axis.more.now c.in_ok-rest.rest.now c.args.draft.now c.test.new.draft c.in_ok-axis.ensures.0 c.in_ok-axis.ensures.1 (from_draft c.count.ensures c.in_ok-rest.ensures) _ _ (search (rules, front)) c.in_err-after-in-91.ensures)
 
 pub step-returns-in_err-end-in-91 : goal.step-returns-in_err-end-in-91
 step-returns-in_err-end-in-91 g t c =
     let p = err_from_is_err_and c.from_residual-in_err-end-in-91.result c.from_residual-in_err-end-in-91.ensures.1 in
     let n = c.in_err-end-in-91.ensures in
-    rw (p.1, p.2) (step_stops_open (g.N.Naming.labels c.args.names.now) c.in_ok-axis.axis c.args.text.now c.in_ok-axis.more.now c.in_ok-rest.rest.now c.args.draft.now c.test.new.draft c.in_ok-axis.ensures.0 c.in_ok-axis.ensures.1 (from_draft c.count.ensures c.in_ok-rest.ensures) _ c.in_ok-after-in-91.after.now _ _ _ (search (rules, front)) c.in_ok-after-in-91.ensures n.0 n.1)
+    rw (p.1, p.2) (step_stops_open _ c.in_ok-axis.axis c.args.text.now c.in_ok-axis.more.now c.in_ok-rest.rest.now c.args.draft.now c.test.new.draft c.in_ok-axis.ensures.0 c.in_ok-axis.ensures.1 (from_draft c.count.ensures c.in_ok-rest.ensures) _ c.in_ok-after-in-91.after.now _ _ _ (search (rules, front)) c.in_ok-after-in-91.ensures n.0 n.1)
 
 pub step-returns-in_ok-end-in-91 : goal.step-returns-in_ok-end-in-91
 step-returns-in_ok-end-in-91 g t c =
-    step_held (g.N.Naming.labels c.args.names.now) c.in_ok-axis.axis c.args.text.now c.in_ok-axis.more.now c.in_ok-rest.rest.now c.args.draft.now c.test.new.draft c.in_ok-axis.ensures.0 c.in_ok-axis.ensures.1 (from_draft c.count.ensures c.in_ok-rest.ensures) _ c.in_ok-after-in-91.after.now c.in_ok-end-in-91.end.now _ _ (search (rules, front)) (from_draft c.enter.ensures c.in_ok-after-in-91.ensures) c.in_ok-end-in-91.ensures
+    step_held _ c.in_ok-axis.axis c.args.text.now c.in_ok-axis.more.now c.in_ok-rest.rest.now c.args.draft.now c.test.new.draft c.in_ok-axis.ensures.0 c.in_ok-axis.ensures.1 (from_draft c.count.ensures c.in_ok-rest.ensures) _ c.in_ok-after-in-91.after.now c.in_ok-end-in-91.end.now _ _ (search (rules, front)) (from_draft c.enter.ensures c.in_ok-after-in-91.ensures) c.in_ok-end-in-91.ensures
     (c.join.ensures ∙ ap (λ (l : ℕ). joined_to Filtered l c.leave.new.self) c.root-here.ensures ∙ ap (joined_to Filtered (root c.test.new.draft)) c.leave.ensures)
 
 pub step-returns-in_default : goal.step-returns-in_default
 step-returns-in_default g t c =
-    step_bare (g.N.Naming.labels c.args.names.now) c.in_ok-axis.axis c.args.text.now c.in_ok-axis.more.now c.in_ok-rest.rest.now c.args.draft.now c.test.new.draft c.in_ok-axis.ensures.0 c.in_ok-axis.ensures.1 (from_draft c.count.ensures c.in_ok-rest.ensures) (search rules)
+    step_bare _ c.in_ok-axis.axis c.args.text.now c.in_ok-axis.more.now c.in_ok-rest.rest.now c.args.draft.now c.test.new.draft c.in_ok-axis.ensures.0 c.in_ok-axis.ensures.1 (from_draft c.count.ensures c.in_ok-rest.ensures) (search rules)
