@@ -12,100 +12,100 @@ use Rattle.reader.proofs.descent.+atom_filter_joins_path_step.Goals as goal
 pub atom-returns-in_err-rest-in-40 : goal.atom-returns-in_err-rest-in-40
 atom-returns-in_err-rest-in-40 g t c =
     let p = err_from_is_err_and c.from_residual.result c.from_residual.ensures.1 in
-    rw (p.1, p.2) (parens_stop c.args.text.now _ _ (search (rules, front)) c.in_err-rest-in-40.ensures)
+    rw (p.1, p.2) (parens_stop _ _ _ (search (rules, front)) c.in_err-rest-in-40.ensures)
 
 pub atom-returns-in_err-inner-in-110 : goal.atom-returns-in_err-inner-in-110
 atom-returns-in_err-inner-in-110 g t c =
     let p = err_from_is_err_and c.from_residual-in_err-inner-in-110.result c.from_residual-in_err-inner-in-110.ensures.1 in
-    rw (p.1, p.2) (not_word_stops c.args.text.now _ _ (search (rules, front)) c.in_err-inner-in-110.ensures)
+    rw (p.1, p.2) (not_word_stops _ _ _ (search (rules, front)) c.in_err-inner-in-110.ensures)
 
 pub atom-returns-in_err-rest-in-110 : goal.atom-returns-in_err-rest-in-110
 atom-returns-in_err-rest-in-110 g t c =
     let p = err_from_is_err_and c.from_residual-in_err-rest-in-110.result c.from_residual-in_err-rest-in-110.ensures.1 in
-    rw (p.1, p.2) (not_stops c.args.text.now _ c.in_ok-inner-in-110.inner.now (search (rules, front)) c.in_ok-inner-in-110.ensures.0 c.in_ok-inner-in-110.ensures.1 _ c.in_err-rest-in-110.ensures)
+    rw (p.1, p.2) (not_stops _ _ _ (search (rules, front)) c.in_ok-inner-in-110.ensures.0 c.in_ok-inner-in-110.ensures.1 _ c.in_err-rest-in-110.ensures)
 
 pub atom-returns-in_err-end-in-110 : goal.atom-returns-in_err-end-in-110
 atom-returns-in_err-end-in-110 g t c =
     let p = err_from_is_err_and c.from_residual-in_err-end-in-110.result c.from_residual-in_err-end-in-110.ensures.1 in
-    rw (p.1, p.2) (not_stops_open c.args.text.now _ c.in_ok-inner-in-110.inner.now (search (rules, front)) c.in_ok-inner-in-110.ensures.0 c.in_ok-inner-in-110.ensures.1 _ c.in_ok-rest-in-110.rest.now _ _ _ c.in_ok-rest-in-110.ensures c.in_err-end-in-110.ensures.0 c.in_err-end-in-110.ensures.1)
+    rw (p.1, p.2) (not_stops_open _ _ _ (search (rules, front)) c.in_ok-inner-in-110.ensures.0 c.in_ok-inner-in-110.ensures.1 _ _ _ _ _ c.in_ok-rest-in-110.ensures c.in_err-end-in-110.ensures.0 c.in_err-end-in-110.ensures.1)
 
 pub atom-returns-in_ok-rest-in-40 : goal.atom-returns-in_ok-rest-in-40
 atom-returns-in_ok-rest-in-40 g t c =
-    parens_read _ c.args.text.now _ c.in_ok-rest-in-40.rest.now _ _ _ c.shut.result (search (rules, front)) (from_draft c.enter.ensures c.in_ok-rest-in-40.ensures) c.leave.ensures c.shut.ensures
+    parens_read _ _ _ _ _ _ _ _ (search (rules, front)) (from_draft c.enter.ensures c.in_ok-rest-in-40.ensures) c.leave.ensures c.shut.ensures
 
 pub atom-returns-in_ok-end-in-110 : goal.atom-returns-in_ok-end-in-110
 atom-returns-in_ok-end-in-110 g t c =
-    not_read c.args.text.now _ c.in_ok-inner-in-110.inner.now (search (rules, front)) c.in_ok-inner-in-110.ensures.0 c.in_ok-inner-in-110.ensures.1 _ c.in_ok-rest-in-110.rest.now c.in_ok-end-in-110.end.now c.args.draft.now _ _ (from_draft (c.enter-in-110.ensures ∙ ap (entered (length c.in_ok-inner-in-110.inner.now)) c.count.ensures) c.in_ok-rest-in-110.ensures) c.in_ok-end-in-110.ensures (c.over.ensures ∙ ap (reached Not) c.leave-in-110.ensures)
+    not_read _ _ _ (search (rules, front)) c.in_ok-inner-in-110.ensures.0 c.in_ok-inner-in-110.ensures.1 _ _ _ _ _ _ (from_draft (c.enter-in-110.ensures ∙ ap (entered (length c.in_ok-inner-in-110.inner.now)) c.count.ensures) c.in_ok-rest-in-110.ensures) c.in_ok-end-in-110.ensures (c.over.ensures ∙ ap (reached Not) c.leave-in-110.ensures)
 
 pub atom-returns-in_default : goal.atom-returns-in_default
-atom-returns-in_default g t c = atom_along _ c.args.text.now _ _ c.path.result (search rules) (search rules) c.path.ensures
+atom-returns-in_default g t c = atom_along _ _ _ _ _ (search rules) (search rules) c.path.ensures
 
 pub filter-returns : goal.filter-returns
-filter-returns g t c = filter_read _ c.args.text.now c.in_ok-rest.rest.now _ _ _ c.joins.result c.in_ok-rest.ensures c.joins.ensures
+filter-returns g t c = filter_read _ _ _ _ _ _ _ c.in_ok-rest.ensures c.joins.ensures
 
 pub joins-returns-in_err-word-in-32 : goal.joins-returns-in_err-word-in-32
 joins-returns-in_err-word-in-32 g t c =
     let p = err_from_is_err_and c.from_residual.result c.from_residual.ensures.1 in
-    rw (p.1, p.2) (joins_word_stops c.args.text.now _ _ (search (rules, front)) c.in_err-word-in-32.ensures)
+    rw (p.1, p.2) (joins_word_stops _ _ _ (search (rules, front)) c.in_err-word-in-32.ensures)
 
 pub joins-returns-in_err-rest-in-And : goal.joins-returns-in_err-rest-in-And
 joins-returns-in_err-rest-in-And g t c =
     let p = err_from_is_err_and c.from_residual-in_err-rest-in-And.result c.from_residual-in_err-rest-in-And.ensures.1 in
-    rw (p.1, p.2) (joins_atom_stops c.args.text.now _ c.in_ok-word-in-32.next.now _ (search (rules, front)) c.in_ok-word-in-32.ensures.1 c.in_err-rest-in-And.ensures)
+    rw (p.1, p.2) (joins_atom_stops _ _ _ _ (search (rules, front)) c.in_ok-word-in-32.ensures.1 c.in_err-rest-in-And.ensures)
 
 pub joins-returns-in_err-rest-in-Or : goal.joins-returns-in_err-rest-in-Or
 joins-returns-in_err-rest-in-Or g t c =
     let p = err_from_is_err_and c.from_residual-in_err-rest-in-Or.result c.from_residual-in_err-rest-in-Or.ensures.1 in
-    rw (p.1, p.2) (joins_atom_stops c.args.text.now _ c.in_ok-word-in-32.next.now _ (search (rules, front)) c.in_ok-word-in-32.ensures.1 c.in_err-rest-in-Or.ensures)
+    rw (p.1, p.2) (joins_atom_stops _ _ _ _ (search (rules, front)) c.in_ok-word-in-32.ensures.1 c.in_err-rest-in-Or.ensures)
 
 pub joins-returns-in_ok-rest-in-And : goal.joins-returns-in_ok-rest-in-And
 joins-returns-in_ok-rest-in-And g t c =
     let h = c.in_ok-word-in-32.ensures in
-    joins_and _ c.args.waiting c.args.text.now _ c.in_ok-word-in-32.next.now c.in_ok-rest-in-And.rest.now c.args.draft.now _ _ _ c.joins.result (search (rules, front))
+    joins_and _ _ _ _ _ _ _ _ _ _ _ (search (rules, front))
     (h.0 ∙ ap (λ (w : Word). word (join_of w) ++ c.in_ok-word-in-32.next.now) c.in-And.is) h.1 (from_draft c.count.ensures c.in_ok-rest-in-And.ensures)
     (c.join.ensures ∙ ap (λ (l : ℕ). joined_to And l c.atom.new.draft) c.root-left.ensures) c.joins.ensures
 
 pub joins-returns-in_ok-rest-in-Or : goal.joins-returns-in_ok-rest-in-Or
 joins-returns-in_ok-rest-in-Or g t c =
     let h = c.in_ok-word-in-32.ensures in
-    joins_or _ c.args.waiting c.args.text.now _ c.in_ok-word-in-32.next.now c.in_ok-rest-in-Or.rest.now c.args.draft.now c.close.new.self _ _ c.root-left-in-Or.result c.joins-in-Or.result (search (rules, front))
+    joins_or _ _ _ _ _ _ _ _ _ _ _ _ (search (rules, front))
     (h.0 ∙ ap (λ (w : Word). word (join_of w) ++ c.in_ok-word-in-32.next.now) c.in-Or.is) h.1 c.close.ensures c.root-left-in-Or.ensures (from_draft c.count-in-Or.ensures c.in_ok-rest-in-Or.ensures) c.joins-in-Or.ensures
 
 pub joins-returns-in_default : goal.joins-returns-in_default
-joins-returns-in_default g t c = joins_end _ c.args.waiting c.args.text.now _ _ (search rules) c.close-in_default.ensures
+joins-returns-in_default g t c = joins_end _ _ _ _ _ (search rules) c.close-in_default.ensures
 
 pub path-returns-in_err-end-in-47 : goal.path-returns-in_err-end-in-47
 path-returns-in_err-end-in-47 g t c =
     let p = err_from_is_err_and c.from_residual-in_err-end-in-47.result c.from_residual-in_err-end-in-47.ensures.1 in
     let s = c.in_ok-axis.ensures in
-    rw (p.1, p.2) (path_stops _ c.in_ok-axis.axis c.args.text.now c.in_ok-axis.rest.now c.args.draft.now c.step.new.draft s.0 s.1 _ _ (search (rules, front)) c.in_err-end-in-47.ensures)
+    rw (p.1, p.2) (path_stops _ _ _ _ _ _ s.0 s.1 _ _ (search (rules, front)) c.in_err-end-in-47.ensures)
 
 pub path-returns-in_ok-end-in-47 : goal.path-returns-in_ok-end-in-47
 path-returns-in_ok-end-in-47 g t c =
     let s = c.in_ok-axis.ensures in
-    path_slash _ c.in_ok-axis.axis c.args.text.now c.in_ok-axis.rest.now c.args.draft.now c.step.new.draft s.0 s.1 _ c.in_ok-end-in-47.end.now _ _ _ (search (rules, front)) c.in_ok-end-in-47.ensures (c.join.ensures ∙ ap (λ (l : ℕ). joined_to Then l c.path.new.draft) c.root-here.ensures) c.over.ensures
+    path_slash _ _ _ _ c.args.draft.now c.step.new.draft s.0 s.1 _ _ c.path.new.draft c.join.new.self c.over.new.self (search (rules, front)) c.in_ok-end-in-47.ensures (c.join.ensures ∙ ap (λ (l : ℕ). joined_to Then l c.path.new.draft) c.root-here.ensures) c.over.ensures
 
 pub path-returns-in_default : goal.path-returns-in_default
 path-returns-in_default g t c =
     let s = c.in_ok-axis.ensures in
-    path_one _ c.in_ok-axis.axis c.args.text.now c.in_ok-axis.rest.now c.args.draft.now c.step.new.draft s.0 s.1 _ (search rules) c.over-in_default.ensures
+    path_one _ _ _ _ _ _ s.0 s.1 _ (search rules) c.over-in_default.ensures
 
 pub step-returns-in_err-after-in-91 : goal.step-returns-in_err-after-in-91
 step-returns-in_err-after-in-91 g t c =
     let p = err_from_is_err_and c.from_residual-in_err-after-in-91.result c.from_residual-in_err-after-in-91.ensures.1 in
-    rw (p.1, p.2) (step_stops_inside _ c.in_ok-axis.axis c.args.text.now c.in_ok-axis.more.now c.in_ok-rest.rest.now c.args.draft.now c.test.new.draft c.in_ok-axis.ensures.0 c.in_ok-axis.ensures.1 (from_draft c.count.ensures c.in_ok-rest.ensures) _ _ (search (rules, front)) c.in_err-after-in-91.ensures)
+    rw (p.1, p.2) (step_stops_inside _ _ _ _ _ c.args.draft.now c.test.new.draft c.in_ok-axis.ensures.0 c.in_ok-axis.ensures.1 (from_draft c.count.ensures c.in_ok-rest.ensures) _ _ (search (rules, front)) c.in_err-after-in-91.ensures)
 
 pub step-returns-in_err-end-in-91 : goal.step-returns-in_err-end-in-91
 step-returns-in_err-end-in-91 g t c =
     let p = err_from_is_err_and c.from_residual-in_err-end-in-91.result c.from_residual-in_err-end-in-91.ensures.1 in
     let n = c.in_err-end-in-91.ensures in
-    rw (p.1, p.2) (step_stops_open _ c.in_ok-axis.axis c.args.text.now c.in_ok-axis.more.now c.in_ok-rest.rest.now c.args.draft.now c.test.new.draft c.in_ok-axis.ensures.0 c.in_ok-axis.ensures.1 (from_draft c.count.ensures c.in_ok-rest.ensures) _ c.in_ok-after-in-91.after.now _ _ _ (search (rules, front)) c.in_ok-after-in-91.ensures n.0 n.1)
+    rw (p.1, p.2) (step_stops_open _ _ _ _ _ c.args.draft.now c.test.new.draft c.in_ok-axis.ensures.0 c.in_ok-axis.ensures.1 (from_draft c.count.ensures c.in_ok-rest.ensures) _ _ _ _ _ (search (rules, front)) c.in_ok-after-in-91.ensures n.0 n.1)
 
 pub step-returns-in_ok-end-in-91 : goal.step-returns-in_ok-end-in-91
 step-returns-in_ok-end-in-91 g t c =
-    step_held _ c.in_ok-axis.axis c.args.text.now c.in_ok-axis.more.now c.in_ok-rest.rest.now c.args.draft.now c.test.new.draft c.in_ok-axis.ensures.0 c.in_ok-axis.ensures.1 (from_draft c.count.ensures c.in_ok-rest.ensures) _ c.in_ok-after-in-91.after.now c.in_ok-end-in-91.end.now _ _ (search (rules, front)) (from_draft c.enter.ensures c.in_ok-after-in-91.ensures) c.in_ok-end-in-91.ensures
+    step_held _ _ _ _ _ _ _ c.in_ok-axis.ensures.0 c.in_ok-axis.ensures.1 (from_draft c.count.ensures c.in_ok-rest.ensures) _ _ _ _ _ (search (rules, front)) (from_draft c.enter.ensures c.in_ok-after-in-91.ensures) c.in_ok-end-in-91.ensures
     (c.join.ensures ∙ ap (λ (l : ℕ). joined_to Filtered l c.leave.new.self) c.root-here.ensures ∙ ap (joined_to Filtered (root c.test.new.draft)) c.leave.ensures)
 
 pub step-returns-in_default : goal.step-returns-in_default
 step-returns-in_default g t c =
-    step_bare _ c.in_ok-axis.axis c.args.text.now c.in_ok-axis.more.now c.in_ok-rest.rest.now c.args.draft.now c.test.new.draft c.in_ok-axis.ensures.0 c.in_ok-axis.ensures.1 (from_draft c.count.ensures c.in_ok-rest.ensures) (search rules)
+    step_bare _ _ _ _ _ _ _ c.in_ok-axis.ensures.0 c.in_ok-axis.ensures.1 (from_draft c.count.ensures c.in_ok-rest.ensures) (search rules)

@@ -7,9 +7,9 @@ use Rattle.reader.proofs.descent.join_word.Goals as goal
 pub returns-in_err-rest-in-97 : goal.returns-in_err-rest-in-97
 returns-in_err-rest-in-97 c =
     let p = err_from_is_err_and c.from_residual.result c.from_residual.ensures.1 in
-    rw (p.1, p.2) (word_stops 97 (codes "nd ") c.args.text.now _ _ (search (rules, front)) (λ fs t. refl) c.in_err-rest-in-97.ensures)
+    rw (p.1, p.2) (word_stops 97 (codes "nd ") _ _ _ (search (rules, front)) (λ fs t. refl) c.in_err-rest-in-97.ensures)
 
 pub returns-in_err-rest-in-111 : goal.returns-in_err-rest-in-111
 returns-in_err-rest-in-111 c =
     let p = err_from_is_err_and c.from_residual-in_err-rest-in-111.result c.from_residual-in_err-rest-in-111.ensures.1 in
-    rw (p.1, p.2) (word_stops 111 (codes "r ") c.args.text.now _ _ (search (rules, front)) (λ fs t. refl) c.in_err-rest-in-111.ensures)
+    rw (p.1, p.2) (word_stops 111 (codes "r ") _ _ _ (search (rules, front)) (λ fs t. refl) c.in_err-rest-in-111.ensures)
