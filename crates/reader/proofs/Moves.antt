@@ -1,6 +1,7 @@
 -- Moves: what a byte that is read, or that is another, makes of the machine.
 use Rattle.std.proofs.Common.{◌≡◌, ℕ, ◌-◌, ◌≤◌, Bool, cond, List, [], ◌∷◌, ◌++◌, length, get_or, take, drop, Ok, Err, codes, Result, sym, refl, ap, ◌∙◌, append_assoc, arith, Bor, eq-eqb, ne_eqb}
 use Rattle.std.proofs.lemmas.List.{take_rest}
+use Rattle.std.specs.Result.{IsErrAnd}
 use Rattle.reader.specs.declared.draft.Stuck.{Stuck}
 use Rattle.model.specs.declared.axis.Axis.{Axis}
 use Rattle.model.specs.Grammar.{axis_text}
@@ -13,6 +14,11 @@ use Rattle.grammar.proofs.Forward.{go_on}
 pub front : (s : List ℕ) (b : ℕ) → 1 ≤ length s → get_or s 0 0 ≡ b → s ≡ b ∷ take (length s - 1) (drop 1 s)
 front [] b h e = absurd (omega arith)
 front (x ∷ xs) b h e = rw (take_rest (x ∷ xs) 1) (ap (λ (y : ℕ). y ∷ xs) e)
+
+-- a call that stopped, and what is answered at its `?`
+pub at_stop : {A : Type 0} (R : Result A Stuck → Type 0) {e : Stuck} {r : Result A Stuck} → IsErrAnd r (λ x. x ≡ e) → R (Err e) → R r
+at_stop R {r = Ok x} h d = absurd h
+at_stop R {r = Err x} h d = rw h d
 
 -- the first byte is another, or there is none
 abbrev pub Not : List ℕ → ℕ → Type 0

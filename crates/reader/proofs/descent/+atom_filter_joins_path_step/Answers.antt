@@ -1,33 +1,28 @@
 use Rattle.std.proofs.Common.{ℕ, ◌++◌, length, ap, ◌∙◌, rules}
-use Rattle.std.proofs.lemmas.Result.{err_from_is_err_and}
 use Rattle.grammar.specs.Joins.{word}
 use Rattle.reader.specs.declared.descent.Word.{Word}
 use Rattle.table.specs.declared.part.Tag.TheVariants.{Filtered, Then, And, Not}
 use Rattle.reader.specs.Drafts.{entered, root, joined_to, reached}
-use Rattle.reader.specs.Parsed.{join_of}
-use Rattle.reader.proofs.Moves.{front}
+use Rattle.reader.specs.Parsed.{AtomRead, JoinsRead, PathRead, StepRead, join_of}
+use Rattle.reader.proofs.Moves.{at_stop, front}
 use Rattle.reader.proofs.Compose.{from_draft, step_bare, step_stops_inside, step_stops_open, step_held, path_one, path_stops, path_slash, atom_along, parens_stop, parens_read, not_stops, not_stops_open, not_read, not_word_stops, filter_read, joins_end, joins_word_stops, joins_atom_stops, joins_and, joins_or}
 use Rattle.reader.proofs.descent.+atom_filter_joins_path_step.Goals as goal
 
 pub atom-returns-in_err-rest-in-40 : goal.atom-returns-in_err-rest-in-40
 atom-returns-in_err-rest-in-40 g t c =
-    let p = err_from_is_err_and c.from_residual.result c.from_residual.ensures.1 in
-    rw (p.1, p.2) (parens_stop _ _ _ (search (rules, front)) c.in_err-rest-in-40.ensures)
+    at_stop (AtomRead _ _ _ _) c.from_residual.ensures.1 (parens_stop _ _ _ (search (rules, front)) c.in_err-rest-in-40.ensures)
 
 pub atom-returns-in_err-inner-in-110 : goal.atom-returns-in_err-inner-in-110
 atom-returns-in_err-inner-in-110 g t c =
-    let p = err_from_is_err_and c.from_residual-in_err-inner-in-110.result c.from_residual-in_err-inner-in-110.ensures.1 in
-    rw (p.1, p.2) (not_word_stops _ _ _ (search (rules, front)) c.in_err-inner-in-110.ensures)
+    at_stop (AtomRead _ _ _ _) c.from_residual-in_err-inner-in-110.ensures.1 (not_word_stops _ _ _ (search (rules, front)) c.in_err-inner-in-110.ensures)
 
 pub atom-returns-in_err-rest-in-110 : goal.atom-returns-in_err-rest-in-110
 atom-returns-in_err-rest-in-110 g t c =
-    let p = err_from_is_err_and c.from_residual-in_err-rest-in-110.result c.from_residual-in_err-rest-in-110.ensures.1 in
-    rw (p.1, p.2) (not_stops _ _ _ (search (rules, front)) c.in_ok-inner-in-110.ensures.0 c.in_ok-inner-in-110.ensures.1 _ c.in_err-rest-in-110.ensures)
+    at_stop (AtomRead _ _ _ _) c.from_residual-in_err-rest-in-110.ensures.1 (not_stops _ _ _ (search (rules, front)) c.in_ok-inner-in-110.ensures.0 c.in_ok-inner-in-110.ensures.1 _ c.in_err-rest-in-110.ensures)
 
 pub atom-returns-in_err-end-in-110 : goal.atom-returns-in_err-end-in-110
 atom-returns-in_err-end-in-110 g t c =
-    let p = err_from_is_err_and c.from_residual-in_err-end-in-110.result c.from_residual-in_err-end-in-110.ensures.1 in
-    rw (p.1, p.2) (not_stops_open _ _ _ (search (rules, front)) c.in_ok-inner-in-110.ensures.0 c.in_ok-inner-in-110.ensures.1 _ _ _ _ _ c.in_ok-rest-in-110.ensures c.in_err-end-in-110.ensures.0 c.in_err-end-in-110.ensures.1)
+    at_stop (AtomRead _ _ _ _) c.from_residual-in_err-end-in-110.ensures.1 (not_stops_open _ _ _ (search (rules, front)) c.in_ok-inner-in-110.ensures.0 c.in_ok-inner-in-110.ensures.1 _ _ _ _ _ c.in_ok-rest-in-110.ensures c.in_err-end-in-110.ensures.0 c.in_err-end-in-110.ensures.1)
 
 pub atom-returns-in_ok-rest-in-40 : goal.atom-returns-in_ok-rest-in-40
 atom-returns-in_ok-rest-in-40 g t c =
@@ -45,18 +40,15 @@ filter-returns g t c = filter_read _ _ _ _ _ _ _ c.in_ok-rest.ensures c.joins.en
 
 pub joins-returns-in_err-word-in-32 : goal.joins-returns-in_err-word-in-32
 joins-returns-in_err-word-in-32 g t c =
-    let p = err_from_is_err_and c.from_residual.result c.from_residual.ensures.1 in
-    rw (p.1, p.2) (joins_word_stops _ _ _ (search (rules, front)) c.in_err-word-in-32.ensures)
+    at_stop (JoinsRead _ _ _ _ _) c.from_residual.ensures.1 (joins_word_stops _ _ _ (search (rules, front)) c.in_err-word-in-32.ensures)
 
 pub joins-returns-in_err-rest-in-And : goal.joins-returns-in_err-rest-in-And
 joins-returns-in_err-rest-in-And g t c =
-    let p = err_from_is_err_and c.from_residual-in_err-rest-in-And.result c.from_residual-in_err-rest-in-And.ensures.1 in
-    rw (p.1, p.2) (joins_atom_stops _ _ _ _ (search (rules, front)) c.in_ok-word-in-32.ensures.1 c.in_err-rest-in-And.ensures)
+    at_stop (JoinsRead _ _ _ _ _) c.from_residual-in_err-rest-in-And.ensures.1 (joins_atom_stops _ _ _ _ (search (rules, front)) c.in_ok-word-in-32.ensures.1 c.in_err-rest-in-And.ensures)
 
 pub joins-returns-in_err-rest-in-Or : goal.joins-returns-in_err-rest-in-Or
 joins-returns-in_err-rest-in-Or g t c =
-    let p = err_from_is_err_and c.from_residual-in_err-rest-in-Or.result c.from_residual-in_err-rest-in-Or.ensures.1 in
-    rw (p.1, p.2) (joins_atom_stops _ _ _ _ (search (rules, front)) c.in_ok-word-in-32.ensures.1 c.in_err-rest-in-Or.ensures)
+    at_stop (JoinsRead _ _ _ _ _) c.from_residual-in_err-rest-in-Or.ensures.1 (joins_atom_stops _ _ _ _ (search (rules, front)) c.in_ok-word-in-32.ensures.1 c.in_err-rest-in-Or.ensures)
 
 pub joins-returns-in_ok-rest-in-And : goal.joins-returns-in_ok-rest-in-And
 joins-returns-in_ok-rest-in-And g t c =
@@ -76,9 +68,8 @@ joins-returns-in_default g t c = joins_end _ _ _ _ _ (search rules) c.close-in_d
 
 pub path-returns-in_err-end-in-47 : goal.path-returns-in_err-end-in-47
 path-returns-in_err-end-in-47 g t c =
-    let p = err_from_is_err_and c.from_residual-in_err-end-in-47.result c.from_residual-in_err-end-in-47.ensures.1 in
     let s = c.in_ok-axis.ensures in
-    rw (p.1, p.2) (path_stops _ _ _ _ _ _ s.0 s.1 _ _ (search (rules, front)) c.in_err-end-in-47.ensures)
+    at_stop (PathRead _ _ _ _) c.from_residual-in_err-end-in-47.ensures.1 (path_stops _ _ _ _ _ _ s.0 s.1 _ _ (search (rules, front)) c.in_err-end-in-47.ensures)
 
 pub path-returns-in_ok-end-in-47 : goal.path-returns-in_ok-end-in-47
 path-returns-in_ok-end-in-47 g t c =
@@ -92,14 +83,12 @@ path-returns-in_default g t c =
 
 pub step-returns-in_err-after-in-91 : goal.step-returns-in_err-after-in-91
 step-returns-in_err-after-in-91 g t c =
-    let p = err_from_is_err_and c.from_residual-in_err-after-in-91.result c.from_residual-in_err-after-in-91.ensures.1 in
-    rw (p.1, p.2) (step_stops_inside _ _ _ _ _ c.args.draft.now c.test.new.draft c.in_ok-axis.ensures.0 c.in_ok-axis.ensures.1 (from_draft c.count.ensures c.in_ok-rest.ensures) _ _ (search (rules, front)) c.in_err-after-in-91.ensures)
+    at_stop (StepRead _ _ _ _) c.from_residual-in_err-after-in-91.ensures.1 (step_stops_inside _ _ _ _ _ c.args.draft.now c.test.new.draft c.in_ok-axis.ensures.0 c.in_ok-axis.ensures.1 (from_draft c.count.ensures c.in_ok-rest.ensures) _ _ (search (rules, front)) c.in_err-after-in-91.ensures)
 
 pub step-returns-in_err-end-in-91 : goal.step-returns-in_err-end-in-91
 step-returns-in_err-end-in-91 g t c =
-    let p = err_from_is_err_and c.from_residual-in_err-end-in-91.result c.from_residual-in_err-end-in-91.ensures.1 in
     let n = c.in_err-end-in-91.ensures in
-    rw (p.1, p.2) (step_stops_open _ _ _ _ _ c.args.draft.now c.test.new.draft c.in_ok-axis.ensures.0 c.in_ok-axis.ensures.1 (from_draft c.count.ensures c.in_ok-rest.ensures) _ _ _ _ _ (search (rules, front)) c.in_ok-after-in-91.ensures n.0 n.1)
+    at_stop (StepRead _ _ _ _) c.from_residual-in_err-end-in-91.ensures.1 (step_stops_open _ _ _ _ _ c.args.draft.now c.test.new.draft c.in_ok-axis.ensures.0 c.in_ok-axis.ensures.1 (from_draft c.count.ensures c.in_ok-rest.ensures) _ _ _ _ _ (search (rules, front)) c.in_ok-after-in-91.ensures n.0 n.1)
 
 pub step-returns-in_ok-end-in-91 : goal.step-returns-in_ok-end-in-91
 step-returns-in_ok-end-in-91 g t c =

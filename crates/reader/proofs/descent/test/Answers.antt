@@ -1,15 +1,14 @@
 use Rattle.std.proofs.Common.{ℕ, length, get_or, Option, sym, ap, ◌∙◌, rules}
-use Rattle.std.proofs.lemmas.Result.{err_from_is_err_and}
 use Rattle.reader.specs.Drafts.{labelled}
-use Rattle.reader.proofs.Moves.{front}
+use Rattle.reader.specs.Parsed.{TestRead}
+use Rattle.reader.proofs.Moves.{at_stop, front}
 use Rattle.reader.proofs.Compose.{name_stops, name_read}
 use Rattle.reader.proofs.descent.test.Goals as goal
 
 pub returns-in_err-rest-in-len1-up : goal.returns-in_err-rest-in-len1-up
 returns-in_err-rest-in-len1-up g c =
-    let p = err_from_is_err_and c.from_residual.result c.from_residual.ensures.1 in
     let x = c.args.text.now in
-    rw (p.1, p.2) (name_stops (get_or x 0 0) x _ _ (search (rules, front)) (sym c.if-is_letter.ensures) c.in_err-rest-in-len1-up.ensures)
+    at_stop (TestRead _ _ _ _) c.from_residual.ensures.1 (name_stops (get_or x 0 0) x _ _ (search (rules, front)) (sym c.if-is_letter.ensures) c.in_err-rest-in-len1-up.ensures)
 
 pub returns-in_ok-rest-in-len1-up : goal.returns-in_ok-rest-in-len1-up
 returns-in_ok-rest-in-len1-up g c =
