@@ -130,7 +130,7 @@ enclosed_made : (labels : Labels) (f : OrChain) (byte : ℕ) (inner after end : 
 enclosed_made labels f byte inner after end old new m i k =
     ap exited (m ∙ ap (λ (y : List ℕ). or_drafted labels f y (entered (length inner) old)) k ∙ ap (λ (y : List ℕ). or_drafted labels f (byte ∷ end) (entered (length y) old)) i)
 
-module _ (labels : Labels) (a : Axis) (text more rest : List ℕ) (old d1 : Draft) (e : text ≡ axis_text a ++ more) (t : Takes axis test text more) (x : ParsedTest labels more rest (counted old) d1) where
+module _ {text more rest : List ℕ} {d1 : Draft} (labels : Labels) (a : Axis) (old : Draft) (e : text ≡ axis_text a ++ more) (t : Takes axis test text more) (x : ParsedTest labels more rest (counted old) d1) where
   pub step_bare : IsNot rest 91 → (p : ParsedStep labels text rest old d1) × (a ≡ step_axis p.tree)
   step_bare n = (
     record {
@@ -168,7 +168,7 @@ module _ (labels : Labels) (a : Axis) (text more rest : List ℕ) (old d1 : Draf
       )
 
 -- Paths: a step, and perhaps "/" and a path.
-module _ (labels : Labels) (a : Axis) (text rest : List ℕ) (old d1 : Draft) (s : ParsedStep labels text rest old d1) (q : a ≡ step_axis s.tree) where
+module _ {labels : Labels} {a : Axis} {text rest : List ℕ} {old d1 : Draft} (s : ParsedStep labels text rest old d1) (q : a ≡ step_axis s.tree) where
   pub path_one : (d2 : Draft) → IsNot rest 47 → d2 ≡ reached (Along a) d1 → ParsedPath labels text rest old d2
   path_one d2 n m =
       record {
@@ -240,7 +240,7 @@ parens_read labels text more rest old d1 d2 (Err x) e f m (q, n) =
     rw q (record { fits = omega (arith, f.takes.falls, ap length e); halts = λ fs. ap (run (atom fs)) e ∙ f.takes.goes (paren, fs) ∙ open_paren fs rest n })
 
 -- after "not("
-module _ (text more inner : List ℕ) (e : text ≡ 110 ∷ more) (w : more ≡ codes "ot(" ++ inner) (t : Takes (lits (codes "ot(")) (λ (s : State). s) more inner) where
+module _ {text more inner : List ℕ} (e : text ≡ 110 ∷ more) (w : more ≡ codes "ot(" ++ inner) (t : Takes (lits (codes "ot(")) (λ (s : State). s) more inner) where
   to_not : (fs : List Frame) → run (atom fs) text ≡ run (atom (paren ∷ fs)) inner
   to_not fs = ap (run (atom fs)) e ∙ t.goes (atom (paren ∷ fs))
 
@@ -303,7 +303,7 @@ pub joins_word_stops : (text more : List ℕ) (left : ℕ) → text ≡ 32 ∷ m
 joins_word_stops text more left e d = stops_via (inside done) joint (λ (x : Frame × List Frame). x.0 ∷ x.1) text more left (omega (arith, ap length e)) (λ x. ap (run (done (x.0 ∷ x.1))) e) d
 
 -- a blank, a word and an atom
-module _ (labels : Labels) (text more next rest : List ℕ) (w : Join) (d0 d1 : Draft) (e : text ≡ 32 ∷ more) (h : more ≡ word w ++ next) (t : Takes joint atom more next) (a : ParsedAtom labels next rest (counted d0) d1) where
+module _ {labels : Labels} {text more next rest : List ℕ} {d1 : Draft} (w : Join) (d0 : Draft) (e : text ≡ 32 ∷ more) (h : more ≡ word w ++ next) (t : Takes joint atom more next) (a : ParsedAtom labels next rest (counted d0) d1) where
   to_atom : (x : Frame × List Frame) → run (inside done x) text ≡ run (inside atom x) next
   to_atom x = ap (run (done (x.0 ∷ x.1))) e ∙ t.goes (x.0 ∷ x.1)
 
@@ -328,21 +328,21 @@ pub joins_and : (labels : Labels) (waiting : Option ℕ) (text more next rest : 
 joins_and labels waiting text more next rest d0 d1 d2 d3 (Ok end) e h t a m j =
     record {
       tree = joined by_and a.tree j.tree;
-      reads = joined_read labels text more next rest by_and d0 d1 e h t a j.tree end.now j.reads;
-      made = j.made ∙ ap (joins_drafted labels waiting j.tree end.now) (m ∙ ap (joined_to And (root d0)) (atom_made labels text more next rest by_and d0 d1 e h t a j.tree end.now j.reads));
-      takes = joined_takes labels text more next rest by_and d0 d1 e h t a end.now j.takes;
+      reads = joined_read by_and d0 e h t a j.tree end.now j.reads;
+      made = j.made ∙ ap (joins_drafted labels waiting j.tree end.now) (m ∙ ap (joined_to And (root d0)) (atom_made by_and d0 e h t a j.tree end.now j.reads));
+      takes = joined_takes by_and d0 e h t a end.now j.takes;
     }
-joins_and labels waiting text more next rest d0 d1 d2 d3 (Err x) e h t a m d = joined_stops labels text more next rest by_and d0 d1 e h t a x.left d
+joins_and labels waiting text more next rest d0 d1 d2 d3 (Err x) e h t a m d = joined_stops by_and d0 e h t a x.left d
 
 pub joins_or : (labels : Labels) (waiting : Option ℕ) (text more next rest : List ℕ) (old d0 d1 d2 : Draft) (left : ℕ) (r : Result (Bor (List ℕ)) Stuck) → text ≡ 32 ∷ more → more ≡ word by_or ++ next → Takes joint atom more next → d0 ≡ closed waiting old → left ≡ root d0 → ParsedAtom labels next rest (counted d0) d1 → JoinsRead labels (Some left) rest d1 d2 r → JoinsRead labels waiting text old d2 r
 joins_or labels waiting text more next rest old d0 d1 d2 left (Ok end) e h t m q a j =
     record {
       tree = joined by_or a.tree j.tree;
-      reads = joined_read labels text more next rest by_or d0 d1 e h t a j.tree end.now j.reads;
-      made = j.made ∙ ap (λ (l : ℕ). joins_drafted labels (Some l) j.tree end.now d1) q ∙ ap (joins_drafted labels (Some (root d0)) j.tree end.now) (atom_made labels text more next rest by_or d0 d1 e h t a j.tree end.now j.reads) ∙ ap (λ (d : Draft). joins_drafted labels (Some (root d)) j.tree end.now (atom_drafted labels a.tree (joins_text j.tree ++ end.now) (counted d))) m;
-      takes = joined_takes labels text more next rest by_or d0 d1 e h t a end.now j.takes;
+      reads = joined_read by_or d0 e h t a j.tree end.now j.reads;
+      made = j.made ∙ ap (λ (l : ℕ). joins_drafted labels (Some l) j.tree end.now d1) q ∙ ap (joins_drafted labels (Some (root d0)) j.tree end.now) (atom_made by_or d0 e h t a j.tree end.now j.reads) ∙ ap (λ (d : Draft). joins_drafted labels (Some (root d)) j.tree end.now (atom_drafted labels a.tree (joins_text j.tree ++ end.now) (counted d))) m;
+      takes = joined_takes by_or d0 e h t a end.now j.takes;
     }
-joins_or labels waiting text more next rest old d0 d1 d2 left (Err x) e h t m q a d = joined_stops labels text more next rest by_or d0 d1 e h t a x.left d
+joins_or labels waiting text more next rest old d0 d1 d2 left (Err x) e h t m q a d = joined_stops by_or d0 e h t a x.left d
 
 -- the same reading, by another name of the draft before it
 pub from_draft : {X Y : Type 0} {write : X → List ℕ} {drafted : X → List ℕ → Draft → Draft} {from to : Y → State} {text rest : List ℕ} {d e new : Draft} → d ≡ e → Parsed write drafted from to text rest d new → Parsed write drafted from to text rest e new

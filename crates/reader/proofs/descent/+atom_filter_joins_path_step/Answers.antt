@@ -18,11 +18,11 @@ atom-returns-in_err-inner-in-110 g t c =
 
 pub atom-returns-in_err-rest-in-110 : goal.atom-returns-in_err-rest-in-110
 atom-returns-in_err-rest-in-110 g t c =
-    at_stop (AtomRead _ _ _ _) c.from_residual-in_err-rest-in-110.ensures.1 (not_stops _ _ _ (search (rules, front)) c.in_ok-inner-in-110.ensures.0 c.in_ok-inner-in-110.ensures.1 _ c.in_err-rest-in-110.ensures)
+    at_stop (AtomRead _ _ _ _) c.from_residual-in_err-rest-in-110.ensures.1 (not_stops (search (rules, front)) c.in_ok-inner-in-110.ensures.0 c.in_ok-inner-in-110.ensures.1 _ c.in_err-rest-in-110.ensures)
 
 pub atom-returns-in_err-end-in-110 : goal.atom-returns-in_err-end-in-110
 atom-returns-in_err-end-in-110 g t c =
-    at_stop (AtomRead _ _ _ _) c.from_residual-in_err-end-in-110.ensures.1 (not_stops_open _ _ _ (search (rules, front)) c.in_ok-inner-in-110.ensures.0 c.in_ok-inner-in-110.ensures.1 _ _ _ _ _ c.in_ok-rest-in-110.ensures c.in_err-end-in-110.ensures.0 c.in_err-end-in-110.ensures.1)
+    at_stop (AtomRead _ _ _ _) c.from_residual-in_err-end-in-110.ensures.1 (not_stops_open (search (rules, front)) c.in_ok-inner-in-110.ensures.0 c.in_ok-inner-in-110.ensures.1 _ _ _ _ _ c.in_ok-rest-in-110.ensures c.in_err-end-in-110.ensures.0 c.in_err-end-in-110.ensures.1)
 
 pub atom-returns-in_ok-rest-in-40 : goal.atom-returns-in_ok-rest-in-40
 atom-returns-in_ok-rest-in-40 g t c =
@@ -30,7 +30,7 @@ atom-returns-in_ok-rest-in-40 g t c =
 
 pub atom-returns-in_ok-end-in-110 : goal.atom-returns-in_ok-end-in-110
 atom-returns-in_ok-end-in-110 g t c =
-    not_read _ _ _ (search (rules, front)) c.in_ok-inner-in-110.ensures.0 c.in_ok-inner-in-110.ensures.1 _ _ _ _ _ _ (from_draft (c.enter-in-110.ensures ∙ ap (entered (length c.in_ok-inner-in-110.inner.now)) c.count.ensures) c.in_ok-rest-in-110.ensures) c.in_ok-end-in-110.ensures (c.over.ensures ∙ ap (reached Not) c.leave-in-110.ensures)
+    not_read (search (rules, front)) c.in_ok-inner-in-110.ensures.0 c.in_ok-inner-in-110.ensures.1 _ _ _ _ _ _ (from_draft (c.enter-in-110.ensures ∙ ap (entered (length c.in_ok-inner-in-110.inner.now)) c.count.ensures) c.in_ok-rest-in-110.ensures) c.in_ok-end-in-110.ensures (c.over.ensures ∙ ap (reached Not) c.leave-in-110.ensures)
 
 pub atom-returns-in_default : goal.atom-returns-in_default
 atom-returns-in_default g t c = atom_along _ _ _ _ _ (search rules) (search rules) c.path.ensures
@@ -69,32 +69,32 @@ joins-returns-in_default g t c = joins_end _ _ _ _ _ (search rules) c.close-in_d
 pub path-returns-in_err-end-in-47 : goal.path-returns-in_err-end-in-47
 path-returns-in_err-end-in-47 g t c =
     let s = c.in_ok-axis.ensures in
-    at_stop (PathRead _ _ _ _) c.from_residual-in_err-end-in-47.ensures.1 (path_stops _ _ _ _ _ _ s.0 s.1 _ _ (search (rules, front)) c.in_err-end-in-47.ensures)
+    at_stop (PathRead _ _ _ _) c.from_residual-in_err-end-in-47.ensures.1 (path_stops s.0 s.1 _ _ (search (rules, front)) c.in_err-end-in-47.ensures)
 
 pub path-returns-in_ok-end-in-47 : goal.path-returns-in_ok-end-in-47
 path-returns-in_ok-end-in-47 g t c =
     let s = c.in_ok-axis.ensures in
-    path_slash _ _ _ _ c.args.draft.now c.step.new.draft s.0 s.1 _ _ c.path.new.draft c.join.new.self c.over.new.self (search (rules, front)) c.in_ok-end-in-47.ensures (c.join.ensures ∙ ap (λ (l : ℕ). joined_to Then l c.path.new.draft) c.root-here.ensures) c.over.ensures
+    path_slash s.0 s.1 _ _ c.path.new.draft c.join.new.self c.over.new.self (search (rules, front)) c.in_ok-end-in-47.ensures (c.join.ensures ∙ ap (λ (l : ℕ). joined_to Then l c.path.new.draft) c.root-here.ensures) c.over.ensures
 
 pub path-returns-in_default : goal.path-returns-in_default
 path-returns-in_default g t c =
     let s = c.in_ok-axis.ensures in
-    path_one _ _ _ _ _ _ s.0 s.1 _ (search rules) c.over-in_default.ensures
+    path_one s.0 s.1 _ (search rules) c.over-in_default.ensures
 
 pub step-returns-in_err-after-in-91 : goal.step-returns-in_err-after-in-91
 step-returns-in_err-after-in-91 g t c =
-    at_stop (StepRead _ _ _ _) c.from_residual-in_err-after-in-91.ensures.1 (step_stops_inside _ _ _ _ _ c.args.draft.now c.test.new.draft c.in_ok-axis.ensures.0 c.in_ok-axis.ensures.1 (from_draft c.count.ensures c.in_ok-rest.ensures) _ _ (search (rules, front)) c.in_err-after-in-91.ensures)
+    at_stop (StepRead _ c.args.text.now _ _) c.from_residual-in_err-after-in-91.ensures.1 (step_stops_inside {text = c.args.text.now} {d1 = c.test.new.draft} _ _ c.args.draft.now c.in_ok-axis.ensures.0 c.in_ok-axis.ensures.1 (from_draft c.count.ensures c.in_ok-rest.ensures) _ _ (search (rules, front)) c.in_err-after-in-91.ensures)
 
 pub step-returns-in_err-end-in-91 : goal.step-returns-in_err-end-in-91
 step-returns-in_err-end-in-91 g t c =
     let n = c.in_err-end-in-91.ensures in
-    at_stop (StepRead _ _ _ _) c.from_residual-in_err-end-in-91.ensures.1 (step_stops_open _ _ _ _ _ c.args.draft.now c.test.new.draft c.in_ok-axis.ensures.0 c.in_ok-axis.ensures.1 (from_draft c.count.ensures c.in_ok-rest.ensures) _ _ _ _ _ (search (rules, front)) c.in_ok-after-in-91.ensures n.0 n.1)
+    at_stop (StepRead _ c.args.text.now _ _) c.from_residual-in_err-end-in-91.ensures.1 (step_stops_open {text = c.args.text.now} {d1 = c.test.new.draft} _ _ c.args.draft.now c.in_ok-axis.ensures.0 c.in_ok-axis.ensures.1 (from_draft c.count.ensures c.in_ok-rest.ensures) _ _ _ _ _ (search (rules, front)) c.in_ok-after-in-91.ensures n.0 n.1)
 
 pub step-returns-in_ok-end-in-91 : goal.step-returns-in_ok-end-in-91
 step-returns-in_ok-end-in-91 g t c =
-    step_held _ _ _ _ _ _ _ c.in_ok-axis.ensures.0 c.in_ok-axis.ensures.1 (from_draft c.count.ensures c.in_ok-rest.ensures) _ _ _ _ _ (search (rules, front)) (from_draft c.enter.ensures c.in_ok-after-in-91.ensures) c.in_ok-end-in-91.ensures
+    step_held _ _ _ c.in_ok-axis.ensures.0 c.in_ok-axis.ensures.1 (from_draft c.count.ensures c.in_ok-rest.ensures) _ _ _ _ _ (search (rules, front)) (from_draft c.enter.ensures c.in_ok-after-in-91.ensures) c.in_ok-end-in-91.ensures
     (c.join.ensures ∙ ap (λ (l : ℕ). joined_to Filtered l c.leave.new.self) c.root-here.ensures ∙ ap (joined_to Filtered (root c.test.new.draft)) c.leave.ensures)
 
 pub step-returns-in_default : goal.step-returns-in_default
 step-returns-in_default g t c =
-    step_bare _ _ _ _ _ _ _ c.in_ok-axis.ensures.0 c.in_ok-axis.ensures.1 (from_draft c.count.ensures c.in_ok-rest.ensures) (search rules)
+    step_bare _ _ _ c.in_ok-axis.ensures.0 c.in_ok-axis.ensures.1 (from_draft c.count.ensures c.in_ok-rest.ensures) (search rules)
