@@ -6,10 +6,10 @@ pub returns-in-58 : goal.returns-in-58
 returns-in-58 c = λ p s f.
     let x = c.in_ok-rest.rest.now in
     names_after s p c.args.w.now _ x _ c.in_ok-rest.ensures.0 c.in_ok-rest.ensures.1
-    (names_plain p c.args.w.now c.args.plain c.args.end.now c.args.long s f x _ _ (search (rules, front)) c.spelt.ensures)
+    (names_plain _ _ _ _ _ s f x _ _ (search (rules, front)) c.spelt.ensures)
 
 pub returns-in-45 : goal.returns-in-45
 returns-in-45 c = λ p s f.
     let x = c.in_ok-rest.rest.now in
     names_after s p c.args.w.now _ x _ c.in_ok-rest.ensures.0 c.in_ok-rest.ensures.1
-    (names_long p c.args.w.now c.args.plain c.args.end.now c.args.long s f x _ _ (search (rules, front)) c.spelt-in-45.ensures)
+    (names_long _ _ _ _ _ s f x _ _ (search (rules, front)) c.spelt-in-45.ensures)
