@@ -14,7 +14,7 @@ use Rattle.grammar.proofs.Chains.{mk_ors, ors_is}
 use Rattle.names.specs.Labels.{Labels}
 use Rattle.reader.specs.declared.draft.Stuck.{Stuck}
 use Rattle.reader.specs.declared.draft.Draft.{Draft}
-use Rattle.table.specs.declared.part.Tag.TheVariants.{Any, Filtered, Then, Along, And, Not, Step}
+use Rattle.table.specs.declared.part.Tag.TheVariants.{Filtered, Then, Along, And, Not, Step}
 use Rattle.reader.specs.Spells.{Takes, Stops}
 use Rattle.reader.specs.Drafts.{part, added, counted, entered, exited, root, joined_to, reached, closed, labelled, joining, enclosed, test_drafted, step_axis, step_drafted, path_drafted, or_drafted, and_drafted, atom_drafted, linked, spine_drafted, joins_drafted}
 use Rattle.reader.specs.Parsed.{Parsed, inside, NameRead, PathRead, SpineRead, FilterRead, AtomRead, JoinsRead, Shut}
@@ -28,21 +28,8 @@ pub takes_via : {X Y : Type 0} (from to : X → State) (via onto : Y → State) 
 takes_via from to via onto f text more rest h e k d = record { falls = omega (arith, d.falls); goes = λ x. e x ∙ d.goes (f x) ∙ ap (λ (s : State). run s rest) (k x) }
 
 -- Words.
-pub word_read : (w : Join) (b : ℕ) (v text more rest : List ℕ) → text ≡ b ∷ more → word w ≡ b ∷ v → ((fs : List Frame) (t : List ℕ) → run (joint fs) (b ∷ t) ≡ run (lits v (atom fs)) t) → more ≡ v ++ rest → Takes (lits v) (λ (s : State). s) more rest → (text ≡ word w ++ rest) × Takes joint atom text rest
-word_read w b v text more rest e h o k d = (
-  e ∙ ap (λ (y : List ℕ). b ∷ y) k ∙ sym (ap (λ (y : List ℕ). y ++ rest) h),
-  takes_via joint atom (lits v) (λ (s : State). s) atom text more rest (omega (arith, ap length e)) (λ fs. ap (run (joint fs)) e ∙ o fs more) (λ fs. refl) d,
-)
-
 pub word_stops : (b : ℕ) (v text more : List ℕ) (left : ℕ) → text ≡ b ∷ more → ((fs : List Frame) (t : List ℕ) → run (joint fs) (b ∷ t) ≡ run (lits v (atom fs)) t) → Stops (lits v) more left → Stops joint text left
 word_stops b v text more left e o d = stops_via joint (lits v) atom text more left (omega (arith, ap length e)) (λ fs. ap (run (joint fs)) e ∙ o fs more) d
-
-pub no_word : (text : List ℕ) → IsNot text 97 → IsNot text 111 → Stops joint text (length text)
-no_word [] m n = record { fits = omega arith; halts = λ fs. refl }
-no_word (b ∷ t) m n = record { fits = omega arith; halts = λ fs. ap (go_on t) (dies fs) }
-  where
-    dies : (fs : List Frame) → on (joint fs) b ≡ dead
-    dies fs = simp (ne_eqb b 97 (m (omega arith)), ne_eqb b 111 (n (omega arith)))
 
 -- Names.
 on_name_lem : (k : ℕ) (b : ℕ) (t : List ℕ) (fs : List Frame) → is_name_byte b ≡ true → run (name (suc k) fs) (b ∷ t) ≡ run (name k fs) t
@@ -72,9 +59,6 @@ on_letter b t fs e =
     let n : eqb b 42 ≡ false = ne_eqb b 42 (λ q. false≢true (sym (ap is_letter q) ∙ e)) in
     ap (λ (v : Bool). go_on t (cond v (go (held fs)) (cond (is_letter b) (go (name 23 fs)) dead))) n ∙ ap (λ (v : Bool). go_on t (cond v (go (name 23 fs)) dead)) e
 
-pub star_read : (labels : Labels) (text rest : List ℕ) (old new : Draft) → text ≡ 42 ∷ rest → new ≡ added (part Any 0 0) old → Parsed test_text (test_drafted labels) test held text rest old new
-star_read labels text rest old new e m = record { tree = star; reads = e; made = m; takes = record { falls = omega (arith, ap length e); goes = λ fs. ap (run (test fs)) e } }
-
 pub name_stops : (b : ℕ) (text more : List ℕ) (left : ℕ) → text ≡ b ∷ more → is_letter b ≡ true → Stops (name 23) more left → Stops test text left
 name_stops b text more left e l d = stops_via test (name 23) (λ (fs : List Frame). fs) text more left (omega (arith, ap length e)) (λ fs. ap (run (test fs)) e ∙ on_letter b more fs l) d
 
@@ -88,13 +72,6 @@ name_read labels b u text more rest old new e l h k d m =
       made = m ∙ ap (λ (y : List ℕ). labelled (labels y) (length text) old) w ∙ ap (λ (y : List ℕ). labelled (labels (b ∷ u)) (length y) old) z;
       takes = takes_via test held (name 23) held (λ (fs : List Frame). fs) text more rest (omega (arith, ap length e)) (λ fs. ap (run (test fs)) e ∙ on_letter b more fs l) (λ fs. refl) d;
     }
-
-pub no_test : (text : List ℕ) → IsNot text 42 → (1 ≤ length text → is_letter (get_or text 0 0) ≡ false) → Stops test text (length text)
-no_test [] m n = record { fits = omega arith; halts = λ fs. refl }
-no_test (b ∷ t) m n = record { fits = omega arith; halts = λ fs. ap (go_on t) (dies fs) }
-  where
-    dies : (fs : List Frame) → on (test fs) b ≡ dead
-    dies fs = simp (ne_eqb b 42 (m (omega arith)), n (omega arith))
 
 -- What a byte that is not read says.
 first_is_not : (t : List ℕ) (b : ℕ) → eqb 0 b ≡ false → IsNot t b → No t b
@@ -153,7 +130,7 @@ enclosed_made : (labels : Labels) (f : OrChain) (byte : ℕ) (inner after end : 
 enclosed_made labels f byte inner after end old new m i k =
     ap exited (m ∙ ap (λ (y : List ℕ). or_drafted labels f y (entered (length inner) old)) k ∙ ap (λ (y : List ℕ). or_drafted labels f (byte ∷ end) (entered (length y) old)) i)
 
-module _ (labels : Labels) (a : Axis) (text more rest : List ℕ) (old d1 : Draft) (e : text ≡ axis_text a ++ more) (t : Takes axis test text more) (x : ParsedTest labels more rest (counted old) d1) where
+module _ {text more rest : List ℕ} {d1 : Draft} (labels : Labels) (a : Axis) (old : Draft) (e : text ≡ axis_text a ++ more) (t : Takes axis test text more) (x : ParsedTest labels more rest (counted old) d1) where
   pub step_bare : IsNot rest 91 → (p : ParsedStep labels text rest old d1) × (a ≡ step_axis p.tree)
   step_bare n = (
     record {
@@ -191,7 +168,7 @@ module _ (labels : Labels) (a : Axis) (text more rest : List ℕ) (old d1 : Draf
       )
 
 -- Paths: a step, and perhaps "/" and a path.
-module _ (labels : Labels) (a : Axis) (text rest : List ℕ) (old d1 : Draft) (s : ParsedStep labels text rest old d1) (q : a ≡ step_axis s.tree) where
+module _ {labels : Labels} {a : Axis} {text rest : List ℕ} {old d1 : Draft} (s : ParsedStep labels text rest old d1) (q : a ≡ step_axis s.tree) where
   pub path_one : (d2 : Draft) → IsNot rest 47 → d2 ≡ reached (Along a) d1 → ParsedPath labels text rest old d2
   path_one d2 n m =
       record {
@@ -263,7 +240,7 @@ parens_read labels text more rest old d1 d2 (Err x) e f m (q, n) =
     rw q (record { fits = omega (arith, f.takes.falls, ap length e); halts = λ fs. ap (run (atom fs)) e ∙ f.takes.goes (paren, fs) ∙ open_paren fs rest n })
 
 -- after "not("
-module _ (text more inner : List ℕ) (e : text ≡ 110 ∷ more) (w : more ≡ codes "ot(" ++ inner) (t : Takes (lits (codes "ot(")) (λ (s : State). s) more inner) where
+module _ {text more inner : List ℕ} (e : text ≡ 110 ∷ more) (w : more ≡ codes "ot(" ++ inner) (t : Takes (lits (codes "ot(")) (λ (s : State). s) more inner) where
   to_not : (fs : List Frame) → run (atom fs) text ≡ run (atom (paren ∷ fs)) inner
   to_not fs = ap (run (atom fs)) e ∙ t.goes (atom (paren ∷ fs))
 
@@ -309,9 +286,6 @@ ands_joins labels (joined by_and a j) x rest d =
 ands_joins labels (joined by_or a j) x rest d =
     or_joins labels j (ands x) (g.atom a) rest d ∙ sym (ap (λ (y : List ℕ). joins_drafted labels None (joined by_or a j) rest (and_drafted labels x y d)) (joins_text_assoc by_or a j rest))
 
-pub filter_stops : (text : List ℕ) (left : ℕ) → Stops atom text left → Stops (inside atom) text left
-filter_stops text left d = stops_via (inside atom) atom (λ (x : Frame × List Frame). x.0 ∷ x.1) text text left (omega arith) (λ x. refl) d
-
 pub filter_read : (labels : Labels) (text rest : List ℕ) (old d1 d2 : Draft) (r : Result (Bor (List ℕ)) Stuck) → ParsedAtom labels text rest old d1 → JoinsRead labels None rest d1 d2 r → FilterRead labels text old d2 r
 filter_read labels text rest old d1 d2 (Ok end) a j =
     record {
@@ -329,7 +303,7 @@ pub joins_word_stops : (text more : List ℕ) (left : ℕ) → text ≡ 32 ∷ m
 joins_word_stops text more left e d = stops_via (inside done) joint (λ (x : Frame × List Frame). x.0 ∷ x.1) text more left (omega (arith, ap length e)) (λ x. ap (run (done (x.0 ∷ x.1))) e) d
 
 -- a blank, a word and an atom
-module _ (labels : Labels) (text more next rest : List ℕ) (w : Join) (d0 d1 : Draft) (e : text ≡ 32 ∷ more) (h : more ≡ word w ++ next) (t : Takes joint atom more next) (a : ParsedAtom labels next rest (counted d0) d1) where
+module _ {labels : Labels} {text more next rest : List ℕ} {d1 : Draft} (w : Join) (d0 : Draft) (e : text ≡ 32 ∷ more) (h : more ≡ word w ++ next) (t : Takes joint atom more next) (a : ParsedAtom labels next rest (counted d0) d1) where
   to_atom : (x : Frame × List Frame) → run (inside done x) text ≡ run (inside atom x) next
   to_atom x = ap (run (done (x.0 ∷ x.1))) e ∙ t.goes (x.0 ∷ x.1)
 
@@ -354,21 +328,21 @@ pub joins_and : (labels : Labels) (waiting : Option ℕ) (text more next rest : 
 joins_and labels waiting text more next rest d0 d1 d2 d3 (Ok end) e h t a m j =
     record {
       tree = joined by_and a.tree j.tree;
-      reads = joined_read labels text more next rest by_and d0 d1 e h t a j.tree end.now j.reads;
-      made = j.made ∙ ap (joins_drafted labels waiting j.tree end.now) (m ∙ ap (joined_to And (root d0)) (atom_made labels text more next rest by_and d0 d1 e h t a j.tree end.now j.reads));
-      takes = joined_takes labels text more next rest by_and d0 d1 e h t a end.now j.takes;
+      reads = joined_read by_and d0 e h t a j.tree end.now j.reads;
+      made = j.made ∙ ap (joins_drafted labels waiting j.tree end.now) (m ∙ ap (joined_to And (root d0)) (atom_made by_and d0 e h t a j.tree end.now j.reads));
+      takes = joined_takes by_and d0 e h t a end.now j.takes;
     }
-joins_and labels waiting text more next rest d0 d1 d2 d3 (Err x) e h t a m d = joined_stops labels text more next rest by_and d0 d1 e h t a x.left d
+joins_and labels waiting text more next rest d0 d1 d2 d3 (Err x) e h t a m d = joined_stops by_and d0 e h t a x.left d
 
 pub joins_or : (labels : Labels) (waiting : Option ℕ) (text more next rest : List ℕ) (old d0 d1 d2 : Draft) (left : ℕ) (r : Result (Bor (List ℕ)) Stuck) → text ≡ 32 ∷ more → more ≡ word by_or ++ next → Takes joint atom more next → d0 ≡ closed waiting old → left ≡ root d0 → ParsedAtom labels next rest (counted d0) d1 → JoinsRead labels (Some left) rest d1 d2 r → JoinsRead labels waiting text old d2 r
 joins_or labels waiting text more next rest old d0 d1 d2 left (Ok end) e h t m q a j =
     record {
       tree = joined by_or a.tree j.tree;
-      reads = joined_read labels text more next rest by_or d0 d1 e h t a j.tree end.now j.reads;
-      made = j.made ∙ ap (λ (l : ℕ). joins_drafted labels (Some l) j.tree end.now d1) q ∙ ap (joins_drafted labels (Some (root d0)) j.tree end.now) (atom_made labels text more next rest by_or d0 d1 e h t a j.tree end.now j.reads) ∙ ap (λ (d : Draft). joins_drafted labels (Some (root d)) j.tree end.now (atom_drafted labels a.tree (joins_text j.tree ++ end.now) (counted d))) m;
-      takes = joined_takes labels text more next rest by_or d0 d1 e h t a end.now j.takes;
+      reads = joined_read by_or d0 e h t a j.tree end.now j.reads;
+      made = j.made ∙ ap (λ (l : ℕ). joins_drafted labels (Some l) j.tree end.now d1) q ∙ ap (joins_drafted labels (Some (root d0)) j.tree end.now) (atom_made by_or d0 e h t a j.tree end.now j.reads) ∙ ap (λ (d : Draft). joins_drafted labels (Some (root d)) j.tree end.now (atom_drafted labels a.tree (joins_text j.tree ++ end.now) (counted d))) m;
+      takes = joined_takes by_or d0 e h t a end.now j.takes;
     }
-joins_or labels waiting text more next rest old d0 d1 d2 left (Err x) e h t m q a d = joined_stops labels text more next rest by_or d0 d1 e h t a x.left d
+joins_or labels waiting text more next rest old d0 d1 d2 left (Err x) e h t m q a d = joined_stops by_or d0 e h t a x.left d
 
 -- the same reading, by another name of the draft before it
 pub from_draft : {X Y : Type 0} {write : X → List ℕ} {drafted : X → List ℕ → Draft → Draft} {from to : Y → State} {text rest : List ℕ} {d e new : Draft} → d ≡ e → Parsed write drafted from to text rest d new → Parsed write drafted from to text rest e new

@@ -1,9 +1,9 @@
 -- What the readers of single words and axes promise, in terms of the byte machine.
-use Rattle.std.specs.Prelude.{◌≡◌, ℕ, ◌≤◌, ◌⊎◌, List, ◌++◌, length, Ok, Err, Result}
+use Rattle.std.specs.Prelude.{◌≡◌, ℕ, ◌≤◌, ◌==◌, false, cond, List, ◌∷◌, ◌++◌, length, Ok, Err, Result, codes}
 use Rattle.std.specs.Borrow.{Bor}
 use Rattle.model.specs.Grammar.{axis_text}
-use Rattle.grammar.specs.Machines.{stops}
-use Rattle.grammar.specs.Machine.{Frame, State, lits, test, run}
+use Rattle.grammar.specs.Machines.{dead, go, stops}
+use Rattle.grammar.specs.Machine.{Frame, State, lits, test, on, ends, run}
 use Rattle.model.specs.declared.axis.Axis.{Axis}
 use Rattle.reader.specs.declared.draft.Stuck.{Stuck}
 
@@ -23,16 +23,14 @@ abbrev pub Spells : List ℕ → List ℕ → Result (Bor (List ℕ)) Stuck → 
 Spells w text (Ok rest) = (text ≡ w ++ rest.now) × Takes (lits w) same text rest.now
 Spells w text (Err e) = Stops (lits w) text e.left
 
-abbrev pub Spelt : List ℕ → Axis → List ℕ → Result (Axis × Bor (List ℕ)) Stuck → Type 0
-Spelt w a text (Ok r) = (r.0 ≡ a) × (text ≡ w ++ r.1.now) × Takes (lits w) same text r.1.now
-Spelt w a text (Err e) = Stops (lits w) text e.left
-
--- one of two axes, with the text of each
-abbrev pub Either : (List Frame → State) → List ℕ → List ℕ → Axis → Axis → List ℕ → Result (Axis × Bor (List ℕ)) Stuck → Type 0
-Either s p q plain long text (Ok r) = (((r.0 ≡ plain) × (text ≡ p ++ r.1.now)) ⊎ ((r.0 ≡ long) × (text ≡ q ++ r.1.now))) × Takes s test text r.1.now
-Either s p q plain long text (Err e) = Stops s text e.left
-
 -- the bytes p, which were read before, and the text begin with the axis
 abbrev pub Names : (List Frame → State) → List ℕ → List ℕ → Result (Axis × Bor (List ℕ)) Stuck → Type 0
 Names s p text (Ok r) = (p ++ text ≡ axis_text r.0 ++ r.1.now) × Takes s test text r.1.now
 Names s p text (Err e) = Stops s text e.left
+
+-- After the bytes p and w the machine takes "::", or "-" and `end`: so two axes are told apart.
+pub record Forks (p w : List ℕ) (plain : Axis) (end : List ℕ) (long : Axis) (s : List Frame → State) : Type 0 where
+  pub plainly : axis_text plain ≡ (p ++ w) ++ codes "::"
+  pub at_length : axis_text long ≡ (p ++ w) ++ (45 ∷ end)
+  pub moves : (fs : List Frame) (b : ℕ) → on (s fs) b ≡ cond (b == 58) (go (lits (codes ":") (test fs))) (cond (b == 45) (go (lits end (test fs))) dead)
+  pub unended : (fs : List Frame) → ends (s fs) ≡ false

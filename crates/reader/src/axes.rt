@@ -1,88 +1,58 @@
 // Reading an axis off the front of a text.
-ghost use Rattle.std.specs.Prelude.{List, [], ◌++◌, codes};
-ghost use Rattle.grammar.specs.Machine.{axis, lits, or_self, or_sibling, after_p};
-ghost use Rattle.reader.specs.Spells.{Spells, Spelt, Either, Names};
+ghost use Rattle.std.specs.Prelude.{◌≡◌, ℕ, ◌≤◌, ◌==◌, List, [], ◌++◌, length, zip, codes};
+ghost use Rattle.std.specs.List.{prefix_len};
+ghost use Rattle.model.specs.Grammar.{axis_text};
+ghost use Rattle.grammar.specs.Machine.{Frame, State, axis, lits, after_p, test};
+ghost use Rattle.reader.specs.Spells.{Spells, Forks, Names};
 
 use crate::draft::Stuck;
 use model::axis::Axis;
+
+// How many bytes at the front are those of `w`.
+fn agreeing(text: &[u8], w: &[u8]) -> usize
+    ensures within { result ≤ length text.now }
+    ensures count { result ≡ prefix_len (λ x. x.0 == x.1) (zip text.now w.now) }
+{
+    text.iter().zip(w).take_while(|(b, c)| *b == *c).count()
+}
 
 // The bytes of `w`.
 pub fn word<'a>(text: &'a [u8], w: &[u8]) -> Result<&'a [u8], Stuck>
     ensures { Spells w.now text.now result }
 {
-    let mut left = text;
-    let mut due = w;
-    'bytes: while let [c, more @ ..] = due {
-        match left {
-            [b, rest @ ..] if *b == *c => {
-                left = rest;
-                due = more;
-            }
-            _ => return Err(Stuck { left: left.len() }),
-        }
+    let same = agreeing(text, w);
+    if same == w.len() {
+        Ok(&text[same..])
+    } else {
+        Err(Stuck {
+            left: text.len() - same,
+        })
     }
-    Ok(left)
 }
 
 // The rest of an axis that is settled.
 fn spelt<'a>(text: &'a [u8], w: &[u8], a: Axis) -> Result<(Axis, &'a [u8]), Stuck>
-    ensures { Spelt w.now a text.now result }
+    ensures { (p : List ℕ) → axis_text a ≡ p ++ w.now → Names (λ fs. lits w.now (test fs)) p text.now result }
 {
-    match word(text, w) {
-        Ok(rest) => Ok((a, rest)),
-        Err(e) => Err(e),
-    }
+    let rest = word(text, w)?;
+    Ok((a, rest))
 }
 
-// "::" or "-or-self::"
-fn or_self(text: &[u8], plain: Axis, long: Axis) -> Result<(Axis, &[u8]), Stuck>
-    ensures { Either or_self (codes "::") (codes "-or-self::") plain long text.now result }
-{
-    match text {
-        [b':', more @ ..] => spelt(more, b":", plain),
-        [b'-', more @ ..] => spelt(more, b"or-self::", long),
-        _ => Err(Stuck { left: text.len() }),
-    }
-}
-
-// A word, and then "::" or "-or-self::".
-fn with_self<'a>(
+// The bytes of `w`, and then "::", or "-" and the bytes of `end`.
+fn either<'a>(
     text: &'a [u8],
     w: &[u8],
     plain: Axis,
+    end: &[u8],
     long: Axis,
 ) -> Result<(Axis, &'a [u8]), Stuck>
-    ensures { Either (λ fs. lits w.now (or_self fs)) (w.now ++ codes "::") (w.now ++ codes "-or-self::") plain long text.now result }
+    ensures { (p : List ℕ) (s : List Frame → State) → Forks p w.now plain end.now long s → Names (λ fs. lits w.now (s fs)) p text.now result }
 {
-    match word(text, w) {
-        Ok(rest) => or_self(rest, plain, long),
-        Err(e) => Err(e),
-    }
-}
-
-// "::" or "-sibling::"
-fn or_sibling(text: &[u8], plain: Axis, long: Axis) -> Result<(Axis, &[u8]), Stuck>
-    ensures { Either or_sibling (codes "::") (codes "-sibling::") plain long text.now result }
-{
-    match text {
+    let rest = word(text, w)?;
+    match rest {
         [b':', more @ ..] => spelt(more, b":", plain),
-        [b'-', more @ ..] => spelt(more, b"sibling::", long),
-        _ => Err(Stuck { left: text.len() }),
-    }
-}
-
-// A word, and then "::" or "-sibling::".
-fn with_sibling<'a>(
-    text: &'a [u8],
-    w: &[u8],
-    plain: Axis,
-    long: Axis,
-) -> Result<(Axis, &'a [u8]), Stuck>
-    ensures { Either (λ fs. lits w.now (or_sibling fs)) (w.now ++ codes "::") (w.now ++ codes "-sibling::") plain long text.now result }
-{
-    match word(text, w) {
-        Ok(rest) => or_sibling(rest, plain, long),
-        Err(e) => Err(e),
+        [b'-', more @ ..] => spelt(more, end, long),
+        _ => Err(Stuck { left: rest.len() }),
     }
 }
 
@@ -92,10 +62,11 @@ fn after_p(text: &[u8]) -> Result<(Axis, &[u8]), Stuck>
 {
     match text {
         [b'a', more @ ..] => spelt(more, b"rent::", Axis::Parent),
-        [b'r', more @ ..] => with_sibling(
+        [b'r', more @ ..] => either(
             more,
             b"eceding",
             Axis::Preceding,
+            b"sibling::",
             Axis::PrecedingSibling,
         ),
         _ => Err(Stuck { left: text.len() }),
@@ -110,17 +81,25 @@ pub fn read_axis(text: &[u8]) -> Result<(Axis, &[u8]), Stuck>
         [b's', more @ ..] => spelt(more, b"elf::", Axis::Itself),
         [b'c', more @ ..] => spelt(more, b"hild::", Axis::Child),
         [b'p', more @ ..] => after_p(more),
-        [b'd', more @ ..] => with_self(
+        [b'd', more @ ..] => either(
             more,
             b"escendant",
             Axis::Descendant,
+            b"or-self::",
             Axis::DescendantOrSelf,
         ),
-        [b'a', more @ ..] => with_self(more, b"ncestor", Axis::Ancestor, Axis::AncestorOrSelf),
-        [b'f', more @ ..] => with_sibling(
+        [b'a', more @ ..] => either(
+            more,
+            b"ncestor",
+            Axis::Ancestor,
+            b"or-self::",
+            Axis::AncestorOrSelf,
+        ),
+        [b'f', more @ ..] => either(
             more,
             b"ollowing",
             Axis::Following,
+            b"sibling::",
             Axis::FollowingSibling,
         ),
         _ => Err(Stuck { left: text.len() }),

@@ -1,14 +1,16 @@
 // Recursive descent over paths, steps and filters. Each reader takes a tree off the front of the text and drafts its parts.
+ghost use Rattle.std.specs.Prelude.{◌≡◌, ◌≤◌, length};
+ghost use Rattle.std.specs.List.{prefix_len};
+ghost use Rattle.model.specs.Names.{is_name_byte};
 ghost use Rattle.reader.specs.Parsed.{NameRead, TestRead, StepRead, PathRead, SpineRead, FilterRead, AtomRead, JoinsRead, WordRead, Shut};
 ghost use Rattle.grammar.specs.Machine.{bracket, paren};
 
 use crate::axes::{read_axis, word};
 use crate::draft::{Draft, Stuck};
-use crate::drafting::{add, close, count, enter, join, leave, note, over, root};
 use model::axis::Axis;
 use names::lookup::Naming;
 use names::{MOST_NAME, is_letter, is_name_byte};
-use table::part::{Part, Tag};
+use table::part::Tag;
 
 // The word that joins two filters.
 #[derive(Clone, Copy)]
@@ -17,23 +19,26 @@ pub enum Word {
     Or,
 }
 
+// How many bytes of a name are at the front.
+fn name_bytes(text: &[u8]) -> usize
+    ensures within { result ≤ length text.now }
+    ensures count { result ≡ prefix_len is_name_byte text.now }
+{
+    text.iter().take_while(|b| is_name_byte(**b)).count()
+}
+
 // At most `room` further bytes of a name.
 fn name_rest(text: &[u8], room: usize) -> Result<&[u8], Stuck>
     ensures { NameRead room text.now result }
 {
-    let mut left = text;
-    let mut spare = room;
-    'bytes: while let [b, rest @ ..] = left {
-        if !is_name_byte(*b) {
-            return Ok(left);
-        }
-        if spare == 0 {
-            return Err(Stuck { left: left.len() });
-        }
-        left = rest;
-        spare -= 1;
+    let used = name_bytes(text);
+    if used <= room {
+        Ok(&text[used..])
+    } else {
+        Err(Stuck {
+            left: text.len() - room,
+        })
     }
-    Ok(left)
 }
 
 // "*" or a name.
@@ -42,39 +47,13 @@ fn test<'a, N: Naming>(text: &'a [u8], names: &N, draft: &mut Draft) -> Result<&
 {
     match text {
         [b'*', rest @ ..] => {
-            add(
-                draft,
-                Part {
-                    tag: Tag::Any,
-                    first: 0,
-                    second: 0,
-                },
-            );
+            draft.add(Tag::Any, 0, 0);
             Ok(rest)
         }
         [b, more @ ..] if is_letter(*b) => {
             let rest = name_rest(more, MOST_NAME - 1)?;
-            match names.label(&text[..text.len() - rest.len()]) {
-                Some(l) => add(
-                    draft,
-                    Part {
-                        tag: Tag::Named,
-                        first: l,
-                        second: 0,
-                    },
-                ),
-                None => {
-                    add(
-                        draft,
-                        Part {
-                            tag: Tag::Named,
-                            first: 0,
-                            second: 0,
-                        },
-                    );
-                    note(draft, text.len());
-                }
-            }
+            let label = names.label(&text[..text.len() - rest.len()]);
+            draft.name(label, text.len());
             Ok(rest)
         }
         _ => Err(Stuck { left: text.len() }),
@@ -117,17 +96,17 @@ fn step<'a, N: Naming>(
 ) -> Result<(Axis, &'a [u8]), Stuck>
     ensures { StepRead (N.labels names.now) text.now draft.old draft.new result }
 {
-    count(draft);
+    draft.count();
     let (axis, more) = read_axis(text)?;
     let rest = test(more, names, draft)?;
     match rest {
         [b'[', inner @ ..] => {
-            let here = root(draft);
-            enter(draft, inner.len());
+            let here = draft.root();
+            draft.enter(inner.len());
             let after = filter(inner, names, draft)?;
             let end = shut(after, b']')?;
-            leave(draft);
-            join(draft, Tag::Filtered, here);
+            draft.leave();
+            draft.join(Tag::Filtered, here);
             Ok((axis, end))
         }
         _ => Ok((axis, rest)),
@@ -142,14 +121,14 @@ fn path<'a, N: Naming>(text: &'a [u8], names: &N, draft: &mut Draft) -> Result<&
     let (axis, rest) = step(text, names, draft)?;
     match rest {
         [b'/', more @ ..] => {
-            let here = root(draft);
+            let here = draft.root();
             let end = path(more, names, draft)?;
-            join(draft, Tag::Then, here);
-            over(draft, Tag::Along(axis));
+            draft.join(Tag::Then, here);
+            draft.over(Tag::Along(axis));
             Ok(end)
         }
         _ => {
-            over(draft, Tag::Along(axis));
+            draft.over(Tag::Along(axis));
             Ok(rest)
         }
     }
@@ -162,19 +141,19 @@ fn atom<'a, N: Naming>(text: &'a [u8], names: &N, draft: &mut Draft) -> Result<&
 {
     match text {
         [b'(', more @ ..] => {
-            enter(draft, more.len());
+            draft.enter(more.len());
             let rest = filter(more, names, draft)?;
-            leave(draft);
+            draft.leave();
             shut(rest, b')')
         }
         [b'n', more @ ..] => {
             let inner = word(more, b"ot(")?;
-            count(draft);
-            enter(draft, inner.len());
+            draft.count();
+            draft.enter(inner.len());
             let rest = filter(inner, names, draft)?;
             let end = shut(rest, b')')?;
-            leave(draft);
-            over(draft, Tag::Not);
+            draft.leave();
+            draft.over(Tag::Not);
             Ok(end)
         }
         _ => path(text, names, draft),
@@ -205,23 +184,23 @@ fn joins<'a, N: Naming>(
             let (word, next) = join_word(more)?;
             match word {
                 Word::And => {
-                    let left = root(draft);
-                    count(draft);
+                    let left = draft.root();
+                    draft.count();
                     let rest = atom(next, names, draft)?;
-                    join(draft, Tag::And, left);
+                    draft.join(Tag::And, left);
                     joins(rest, names, draft, waiting)
                 }
                 Word::Or => {
-                    close(draft, waiting);
-                    let left = root(draft);
-                    count(draft);
+                    draft.close(waiting);
+                    let left = draft.root();
+                    draft.count();
                     let rest = atom(next, names, draft)?;
                     joins(rest, names, draft, Some(left))
                 }
             }
         }
         _ => {
-            close(draft, waiting);
+            draft.close(waiting);
             Ok(text)
         }
     }
@@ -231,17 +210,10 @@ fn joins<'a, N: Naming>(
 pub fn spine<'a, N: Naming>(text: &'a [u8], names: &N, draft: &mut Draft) -> Result<&'a [u8], Stuck>
     ensures { SpineRead (N.labels names.now) text.now draft.old draft.new result }
 {
-    let before = root(draft);
+    let before = draft.root();
     let (axis, rest) = step(text, names, draft)?;
-    let here = root(draft);
-    add(
-        draft,
-        Part {
-            tag: Tag::Step(axis),
-            first: here,
-            second: before,
-        },
-    );
+    let here = draft.root();
+    draft.add(Tag::Step(axis), here, before);
     match rest {
         [b'/', more @ ..] => spine(more, names, draft),
         _ => Ok(rest),

@@ -4,4 +4,3 @@
 mod axes;
 pub mod descent;
 pub mod draft;
-mod drafting;

@@ -1,124 +1,100 @@
-use Rattle.std.proofs.Common.{ℕ, List, ◌++◌, length, ap, ◌∙◌, rules}
-use Rattle.std.proofs.lemmas.Result.{err_from_is_err_and}
-use Rattle.grammar.specs.Machine.{axis, test}
-use Rattle.grammar.specs.Machine.{Frame}
+use Rattle.std.proofs.Common.{ℕ, ◌++◌, length, ap, ◌∙◌, rules}
 use Rattle.grammar.specs.Joins.{word}
 use Rattle.reader.specs.declared.descent.Word.{Word}
 use Rattle.table.specs.declared.part.Tag.TheVariants.{Filtered, Then, And, Not}
 use Rattle.reader.specs.Drafts.{entered, root, joined_to, reached}
-use Rattle.reader.specs.Parsed.{join_of}
-use Rattle.reader.proofs.Moves.{front}
-use Rattle.reader.proofs.Compose.{from_draft, stops_via, step_bare, step_stops_inside, step_stops_open, step_held, path_one, path_stops, path_slash, atom_along, parens_stop, parens_read, not_stops, not_stops_open, not_read, not_word_stops, filter_stops, filter_read, joins_end, joins_word_stops, joins_atom_stops, joins_and, joins_or}
+use Rattle.reader.specs.Parsed.{AtomRead, JoinsRead, PathRead, StepRead, join_of}
+use Rattle.reader.proofs.Moves.{at_stop, front}
+use Rattle.reader.proofs.Compose.{from_draft, step_bare, step_stops_inside, step_stops_open, step_held, path_one, path_stops, path_slash, atom_along, parens_stop, parens_read, not_stops, not_stops_open, not_read, not_word_stops, filter_read, joins_end, joins_word_stops, joins_atom_stops, joins_and, joins_or}
 use Rattle.reader.proofs.descent.+atom_filter_joins_path_step.Goals as goal
 
 pub atom-returns-in_err-rest-in-40 : goal.atom-returns-in_err-rest-in-40
 atom-returns-in_err-rest-in-40 g t c =
-    let p = err_from_is_err_and c.from_residual.result c.from_residual.ensures.1 in
-    rw (p.1, p.2) (parens_stop c.args.text.now _ _ (front c.args.text.now 40 (search rules) (search rules)) c.in_err-rest-in-40.ensures)
+    at_stop (AtomRead _ _ _ _) c.from_residual.ensures.1 (parens_stop _ _ _ (search (rules, front)) c.in_err-rest-in-40.ensures)
 
 pub atom-returns-in_err-inner-in-110 : goal.atom-returns-in_err-inner-in-110
 atom-returns-in_err-inner-in-110 g t c =
-    let p = err_from_is_err_and c.from_residual-in_err-inner-in-110.result c.from_residual-in_err-inner-in-110.ensures.1 in
-    rw (p.1, p.2) (not_word_stops c.args.text.now _ _ (front c.args.text.now 110 (search rules) (search rules)) c.in_err-inner-in-110.ensures)
+    at_stop (AtomRead _ _ _ _) c.from_residual-in_err-inner-in-110.ensures.1 (not_word_stops _ _ _ (search (rules, front)) c.in_err-inner-in-110.ensures)
 
 pub atom-returns-in_err-rest-in-110 : goal.atom-returns-in_err-rest-in-110
 atom-returns-in_err-rest-in-110 g t c =
-    let p = err_from_is_err_and c.from_residual-in_err-rest-in-110.result c.from_residual-in_err-rest-in-110.ensures.1 in
-    rw (p.1, p.2) (not_stops c.args.text.now _ c.in_ok-inner-in-110.inner.now (front c.args.text.now 110 (search rules) (search rules)) c.in_ok-inner-in-110.ensures.0 c.in_ok-inner-in-110.ensures.1 _ c.in_err-rest-in-110.ensures)
+    at_stop (AtomRead _ _ _ _) c.from_residual-in_err-rest-in-110.ensures.1 (not_stops (search (rules, front)) c.in_ok-inner-in-110.ensures.0 c.in_ok-inner-in-110.ensures.1 _ c.in_err-rest-in-110.ensures)
 
 pub atom-returns-in_err-end-in-110 : goal.atom-returns-in_err-end-in-110
 atom-returns-in_err-end-in-110 g t c =
-    let p = err_from_is_err_and c.from_residual-in_err-end-in-110.result c.from_residual-in_err-end-in-110.ensures.1 in
-    rw (p.1, p.2) (not_stops_open c.args.text.now _ c.in_ok-inner-in-110.inner.now (front c.args.text.now 110 (search rules) (search rules)) c.in_ok-inner-in-110.ensures.0 c.in_ok-inner-in-110.ensures.1 (g.N.Naming.labels c.args.names.now) c.in_ok-rest-in-110.rest.now _ _ _ c.in_ok-rest-in-110.ensures c.in_err-end-in-110.ensures.0 c.in_err-end-in-110.ensures.1)
+    at_stop (AtomRead _ _ _ _) c.from_residual-in_err-end-in-110.ensures.1 (not_stops_open (search (rules, front)) c.in_ok-inner-in-110.ensures.0 c.in_ok-inner-in-110.ensures.1 _ _ _ _ _ c.in_ok-rest-in-110.ensures c.in_err-end-in-110.ensures.0 c.in_err-end-in-110.ensures.1)
 
 pub atom-returns-in_ok-rest-in-40 : goal.atom-returns-in_ok-rest-in-40
 atom-returns-in_ok-rest-in-40 g t c =
-    parens_read (g.N.Naming.labels c.args.names.now) c.args.text.now _ c.in_ok-rest-in-40.rest.now _ _ _ c.shut.result (front c.args.text.now 40 (search rules) (search rules)) (from_draft c.enter.ensures c.in_ok-rest-in-40.ensures) c.leave.ensures c.shut.ensures
+    parens_read _ _ _ _ _ _ _ _ (search (rules, front)) (from_draft c.enter.ensures c.in_ok-rest-in-40.ensures) c.leave.ensures c.shut.ensures
 
 pub atom-returns-in_ok-end-in-110 : goal.atom-returns-in_ok-end-in-110
 atom-returns-in_ok-end-in-110 g t c =
-    not_read c.args.text.now _ c.in_ok-inner-in-110.inner.now (front c.args.text.now 110 (search rules) (search rules)) c.in_ok-inner-in-110.ensures.0 c.in_ok-inner-in-110.ensures.1 (g.N.Naming.labels c.args.names.now) c.in_ok-rest-in-110.rest.now c.in_ok-end-in-110.end.now c.args.draft.now _ _ (from_draft (c.enter-in-110.ensures ∙ ap (entered (length c.in_ok-inner-in-110.inner.now)) c.count.ensures) c.in_ok-rest-in-110.ensures) c.in_ok-end-in-110.ensures (c.over.ensures ∙ ap (reached Not) c.leave-in-110.ensures)
+    not_read (search (rules, front)) c.in_ok-inner-in-110.ensures.0 c.in_ok-inner-in-110.ensures.1 _ _ _ _ _ _ (from_draft (c.enter-in-110.ensures ∙ ap (entered (length c.in_ok-inner-in-110.inner.now)) c.count.ensures) c.in_ok-rest-in-110.ensures) c.in_ok-end-in-110.ensures (c.over.ensures ∙ ap (reached Not) c.leave-in-110.ensures)
 
 pub atom-returns-in_default : goal.atom-returns-in_default
-atom-returns-in_default g t c = atom_along (g.N.Naming.labels c.args.names.now) c.args.text.now _ _ c.path.result (search rules) (search rules) c.path.ensures
-
-pub filter-returns-in_err-rest : goal.filter-returns-in_err-rest
-filter-returns-in_err-rest g t c =
-    let p = err_from_is_err_and c.from_residual.result c.from_residual.ensures.1 in
-    rw (p.1, p.2) (filter_stops c.args.text.now _ c.in_err-rest.ensures)
+atom-returns-in_default g t c = atom_along _ _ _ _ _ (search rules) (search rules) c.path.ensures
 
 pub filter-returns : goal.filter-returns
-filter-returns g t c = filter_read (g.N.Naming.labels c.args.names.now) c.args.text.now c.in_ok-rest.rest.now _ _ _ c.joins.result c.in_ok-rest.ensures c.joins.ensures
+filter-returns g t c = filter_read _ _ _ _ _ _ _ c.in_ok-rest.ensures c.joins.ensures
 
 pub joins-returns-in_err-word-in-32 : goal.joins-returns-in_err-word-in-32
 joins-returns-in_err-word-in-32 g t c =
-    let p = err_from_is_err_and c.from_residual.result c.from_residual.ensures.1 in
-    rw (p.1, p.2) (joins_word_stops c.args.text.now _ _ (front c.args.text.now 32 (search rules) (search rules)) c.in_err-word-in-32.ensures)
+    at_stop (JoinsRead _ _ _ _ _) c.from_residual.ensures.1 (joins_word_stops _ _ _ (search (rules, front)) c.in_err-word-in-32.ensures)
 
 pub joins-returns-in_err-rest-in-And : goal.joins-returns-in_err-rest-in-And
 joins-returns-in_err-rest-in-And g t c =
-    let p = err_from_is_err_and c.from_residual-in_err-rest-in-And.result c.from_residual-in_err-rest-in-And.ensures.1 in
-    rw (p.1, p.2) (joins_atom_stops c.args.text.now _ c.in_ok-word-in-32.next.now _ (front c.args.text.now 32 (search rules) (search rules)) c.in_ok-word-in-32.ensures.1 c.in_err-rest-in-And.ensures)
+    at_stop (JoinsRead _ _ _ _ _) c.from_residual-in_err-rest-in-And.ensures.1 (joins_atom_stops _ _ _ _ (search (rules, front)) c.in_ok-word-in-32.ensures.1 c.in_err-rest-in-And.ensures)
 
 pub joins-returns-in_err-rest-in-Or : goal.joins-returns-in_err-rest-in-Or
 joins-returns-in_err-rest-in-Or g t c =
-    let p = err_from_is_err_and c.from_residual-in_err-rest-in-Or.result c.from_residual-in_err-rest-in-Or.ensures.1 in
-    rw (p.1, p.2) (joins_atom_stops c.args.text.now _ c.in_ok-word-in-32.next.now _ (front c.args.text.now 32 (search rules) (search rules)) c.in_ok-word-in-32.ensures.1 c.in_err-rest-in-Or.ensures)
+    at_stop (JoinsRead _ _ _ _ _) c.from_residual-in_err-rest-in-Or.ensures.1 (joins_atom_stops _ _ _ _ (search (rules, front)) c.in_ok-word-in-32.ensures.1 c.in_err-rest-in-Or.ensures)
 
 pub joins-returns-in_ok-rest-in-And : goal.joins-returns-in_ok-rest-in-And
 joins-returns-in_ok-rest-in-And g t c =
     let h = c.in_ok-word-in-32.ensures in
-    joins_and (g.N.Naming.labels c.args.names.now) c.args.waiting c.args.text.now _ c.in_ok-word-in-32.next.now c.in_ok-rest-in-And.rest.now c.args.draft.now _ _ _ c.joins.result (front c.args.text.now 32 (search rules) (search rules))
+    joins_and _ _ _ _ _ _ _ _ _ _ _ (search (rules, front))
     (h.0 ∙ ap (λ (w : Word). word (join_of w) ++ c.in_ok-word-in-32.next.now) c.in-And.is) h.1 (from_draft c.count.ensures c.in_ok-rest-in-And.ensures)
     (c.join.ensures ∙ ap (λ (l : ℕ). joined_to And l c.atom.new.draft) c.root-left.ensures) c.joins.ensures
 
 pub joins-returns-in_ok-rest-in-Or : goal.joins-returns-in_ok-rest-in-Or
 joins-returns-in_ok-rest-in-Or g t c =
     let h = c.in_ok-word-in-32.ensures in
-    joins_or (g.N.Naming.labels c.args.names.now) c.args.waiting c.args.text.now _ c.in_ok-word-in-32.next.now c.in_ok-rest-in-Or.rest.now c.args.draft.now c.close.new.draft _ _ c.root-left-in-Or.result c.joins-in-Or.result (front c.args.text.now 32 (search rules) (search rules))
+    joins_or _ _ _ _ _ _ _ _ _ _ _ _ (search (rules, front))
     (h.0 ∙ ap (λ (w : Word). word (join_of w) ++ c.in_ok-word-in-32.next.now) c.in-Or.is) h.1 c.close.ensures c.root-left-in-Or.ensures (from_draft c.count-in-Or.ensures c.in_ok-rest-in-Or.ensures) c.joins-in-Or.ensures
 
 pub joins-returns-in_default : goal.joins-returns-in_default
-joins-returns-in_default g t c = joins_end (g.N.Naming.labels c.args.names.now) c.args.waiting c.args.text.now _ _ (search rules) c.close-in_default.ensures
+joins-returns-in_default g t c = joins_end _ _ _ _ _ (search rules) c.close-in_default.ensures
 
 pub path-returns-in_err-end-in-47 : goal.path-returns-in_err-end-in-47
 path-returns-in_err-end-in-47 g t c =
-    let p = err_from_is_err_and c.from_residual-in_err-end-in-47.result c.from_residual-in_err-end-in-47.ensures.1 in
     let s = c.in_ok-axis.ensures in
-    rw (p.1, p.2) (path_stops (g.N.Naming.labels c.args.names.now) c.in_ok-axis.axis c.args.text.now c.in_ok-axis.rest.now c.args.draft.now c.step.new.draft s.0 s.1 _ _ (front c.in_ok-axis.rest.now 47 (search rules) (search rules)) c.in_err-end-in-47.ensures)
+    at_stop (PathRead _ _ _ _) c.from_residual-in_err-end-in-47.ensures.1 (path_stops s.0 s.1 _ _ (search (rules, front)) c.in_err-end-in-47.ensures)
 
 pub path-returns-in_ok-end-in-47 : goal.path-returns-in_ok-end-in-47
 path-returns-in_ok-end-in-47 g t c =
     let s = c.in_ok-axis.ensures in
-    path_slash (g.N.Naming.labels c.args.names.now) c.in_ok-axis.axis c.args.text.now c.in_ok-axis.rest.now c.args.draft.now c.step.new.draft s.0 s.1 _ c.in_ok-end-in-47.end.now _ _ _ (front c.in_ok-axis.rest.now 47 (search rules) (search rules)) c.in_ok-end-in-47.ensures (c.join.ensures ∙ ap (λ (l : ℕ). joined_to Then l c.path.new.draft) c.root-here.ensures) c.over.ensures
+    path_slash s.0 s.1 _ _ c.path.new.draft c.join.new.self c.over.new.self (search (rules, front)) c.in_ok-end-in-47.ensures (c.join.ensures ∙ ap (λ (l : ℕ). joined_to Then l c.path.new.draft) c.root-here.ensures) c.over.ensures
 
 pub path-returns-in_default : goal.path-returns-in_default
 path-returns-in_default g t c =
     let s = c.in_ok-axis.ensures in
-    path_one (g.N.Naming.labels c.args.names.now) c.in_ok-axis.axis c.args.text.now c.in_ok-axis.rest.now c.args.draft.now c.step.new.draft s.0 s.1 _ (search rules) c.over-in_default.ensures
-
-pub step-returns-in_err-rest : goal.step-returns-in_err-rest
-step-returns-in_err-rest g t c =
-    let p = err_from_is_err_and c.from_residual-in_err-rest.result c.from_residual-in_err-rest.ensures.1 in
-    let a = c.in_ok-axis.ensures.1 in
-    rw (p.1, p.2) (stops_via axis test (λ (fs : List Frame). fs) c.args.text.now c.in_ok-axis.more.now _ a.falls a.goes c.in_err-rest.ensures)
+    path_one s.0 s.1 _ (search rules) c.over-in_default.ensures
 
 pub step-returns-in_err-after-in-91 : goal.step-returns-in_err-after-in-91
 step-returns-in_err-after-in-91 g t c =
-    let p = err_from_is_err_and c.from_residual-in_err-after-in-91.result c.from_residual-in_err-after-in-91.ensures.1 in
-    rw (p.1, p.2) (step_stops_inside (g.N.Naming.labels c.args.names.now) c.in_ok-axis.axis c.args.text.now c.in_ok-axis.more.now c.in_ok-rest.rest.now c.args.draft.now c.test.new.draft c.in_ok-axis.ensures.0 c.in_ok-axis.ensures.1 (from_draft c.count.ensures c.in_ok-rest.ensures) _ _ (front c.in_ok-rest.rest.now 91 (search rules) (search rules)) c.in_err-after-in-91.ensures)
+    at_stop (StepRead _ c.args.text.now _ _) c.from_residual-in_err-after-in-91.ensures.1 (step_stops_inside {text = c.args.text.now} {d1 = c.test.new.draft} _ _ c.args.draft.now c.in_ok-axis.ensures.0 c.in_ok-axis.ensures.1 (from_draft c.count.ensures c.in_ok-rest.ensures) _ _ (search (rules, front)) c.in_err-after-in-91.ensures)
 
 pub step-returns-in_err-end-in-91 : goal.step-returns-in_err-end-in-91
 step-returns-in_err-end-in-91 g t c =
-    let p = err_from_is_err_and c.from_residual-in_err-end-in-91.result c.from_residual-in_err-end-in-91.ensures.1 in
     let n = c.in_err-end-in-91.ensures in
-    rw (p.1, p.2) (step_stops_open (g.N.Naming.labels c.args.names.now) c.in_ok-axis.axis c.args.text.now c.in_ok-axis.more.now c.in_ok-rest.rest.now c.args.draft.now c.test.new.draft c.in_ok-axis.ensures.0 c.in_ok-axis.ensures.1 (from_draft c.count.ensures c.in_ok-rest.ensures) _ c.in_ok-after-in-91.after.now _ _ _ (front c.in_ok-rest.rest.now 91 (search rules) (search rules)) c.in_ok-after-in-91.ensures n.0 n.1)
+    at_stop (StepRead _ c.args.text.now _ _) c.from_residual-in_err-end-in-91.ensures.1 (step_stops_open {text = c.args.text.now} {d1 = c.test.new.draft} _ _ c.args.draft.now c.in_ok-axis.ensures.0 c.in_ok-axis.ensures.1 (from_draft c.count.ensures c.in_ok-rest.ensures) _ _ _ _ _ (search (rules, front)) c.in_ok-after-in-91.ensures n.0 n.1)
 
 pub step-returns-in_ok-end-in-91 : goal.step-returns-in_ok-end-in-91
 step-returns-in_ok-end-in-91 g t c =
-    step_held (g.N.Naming.labels c.args.names.now) c.in_ok-axis.axis c.args.text.now c.in_ok-axis.more.now c.in_ok-rest.rest.now c.args.draft.now c.test.new.draft c.in_ok-axis.ensures.0 c.in_ok-axis.ensures.1 (from_draft c.count.ensures c.in_ok-rest.ensures) _ c.in_ok-after-in-91.after.now c.in_ok-end-in-91.end.now _ _ (front c.in_ok-rest.rest.now 91 (search rules) (search rules)) (from_draft c.enter.ensures c.in_ok-after-in-91.ensures) c.in_ok-end-in-91.ensures
-    (c.join.ensures ∙ ap (λ (l : ℕ). joined_to Filtered l c.leave.new.draft) c.root-here.ensures ∙ ap (joined_to Filtered (root c.test.new.draft)) c.leave.ensures)
+    step_held _ _ _ c.in_ok-axis.ensures.0 c.in_ok-axis.ensures.1 (from_draft c.count.ensures c.in_ok-rest.ensures) _ _ _ _ _ (search (rules, front)) (from_draft c.enter.ensures c.in_ok-after-in-91.ensures) c.in_ok-end-in-91.ensures
+    (c.join.ensures ∙ ap (λ (l : ℕ). joined_to Filtered l c.leave.new.self) c.root-here.ensures ∙ ap (joined_to Filtered (root c.test.new.draft)) c.leave.ensures)
 
 pub step-returns-in_default : goal.step-returns-in_default
 step-returns-in_default g t c =
-    step_bare (g.N.Naming.labels c.args.names.now) c.in_ok-axis.axis c.args.text.now c.in_ok-axis.more.now c.in_ok-rest.rest.now c.args.draft.now c.test.new.draft c.in_ok-axis.ensures.0 c.in_ok-axis.ensures.1 (from_draft c.count.ensures c.in_ok-rest.ensures) (search rules)
+    step_bare _ _ _ c.in_ok-axis.ensures.0 c.in_ok-axis.ensures.1 (from_draft c.count.ensures c.in_ok-rest.ensures) (search rules)

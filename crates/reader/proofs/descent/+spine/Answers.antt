@@ -6,11 +6,9 @@ use Rattle.reader.proofs.descent.+spine.Goals as goal
 pub returns-in-47 : goal.returns-in-47
 returns-in-47 g t c =
     let s = c.in_ok-axis.ensures in
-    let r = c.in_ok-axis.rest.now in
-    spine_slash (g.N.Naming.labels c.args.names.now) c.in_ok-axis.axis c.args.text.now r c.args.draft.now c.step.new.draft s.0 s.1 _ _ _ c.spine.result (front r 47 (search rules) (search rules)) (linked_made c.in_ok-axis.axis c.args.draft.now c.step.new.draft c.add.new.draft c.root-before.result c.root-here.result c.root-before.ensures c.root-here.ensures c.add.ensures) c.spine.ensures
+    spine_slash s.0 s.1 _ _ _ c.spine.result (search (rules, front)) (linked_made _ c.args.draft.now c.step.new.draft _ _ _ c.root-before.ensures c.root-here.ensures c.add.ensures) c.spine.ensures
 
 pub returns-in_default : goal.returns-in_default
 returns-in_default g t c =
     let s = c.in_ok-axis.ensures in
-    let r = c.in_ok-axis.rest.now in
-    spine_one (g.N.Naming.labels c.args.names.now) c.in_ok-axis.axis c.args.text.now r c.args.draft.now c.step.new.draft s.0 s.1 _ (search rules) (linked_made c.in_ok-axis.axis c.args.draft.now c.step.new.draft c.add.new.draft c.root-before.result c.root-here.result c.root-before.ensures c.root-here.ensures c.add.ensures)
+    spine_one s.0 s.1 _ (search rules) (linked_made _ c.args.draft.now c.step.new.draft _ _ _ c.root-before.ensures c.root-here.ensures c.add.ensures)

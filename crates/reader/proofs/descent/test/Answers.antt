@@ -1,36 +1,18 @@
-use Rattle.std.proofs.Common.{◌≡◌, ℕ, ◌-◌, length, get_or, take, Option, sym, ap, ◌∙◌, rules}
-use Rattle.std.proofs.lemmas.Result.{err_from_is_err_and}
-use Rattle.reader.specs.Drafts.{labelled, noted}
-use Rattle.reader.proofs.Moves.{front}
-use Rattle.reader.proofs.Compose.{star_read, name_stops, name_read, no_test}
+use Rattle.std.proofs.Common.{ℕ, length, get_or, Option, sym, ap, ◌∙◌, rules}
+use Rattle.reader.specs.Drafts.{labelled}
+use Rattle.reader.specs.Parsed.{TestRead}
+use Rattle.reader.proofs.Moves.{at_stop, front}
+use Rattle.reader.proofs.Compose.{name_stops, name_read}
 use Rattle.reader.proofs.descent.test.Goals as goal
-use Rattle.reader.proofs.descent.test.Goals.{in-Some, in-None, in_default-via-then-text-lt1, in_default-via-in-len1-up+else-is_letter}
 
 pub returns-in_err-rest-in-len1-up : goal.returns-in_err-rest-in-len1-up
 returns-in_err-rest-in-len1-up g c =
-    let p = err_from_is_err_and c.from_residual.result c.from_residual.ensures.1 in
     let x = c.args.text.now in
-    rw (p.1, p.2) (name_stops (get_or x 0 0) x _ _ (front x (get_or x 0 0) (search rules) (search rules)) (sym c.if-is_letter.ensures) c.in_err-rest-in-len1-up.ensures)
+    at_stop (TestRead _ _ _ _) c.from_residual.ensures.1 (name_stops (get_or x 0 0) x _ _ (search (rules, front)) (sym c.if-is_letter.ensures) c.in_err-rest-in-len1-up.ensures)
 
-pub returns-in-42 : goal.returns-in-42
-returns-in-42 g c = star_read (g.N.Naming.labels c.args.names.now) c.args.text.now _ _ _ (front c.args.text.now 42 (search rules) (search rules)) c.add.ensures
-
-pub returns-after-label : goal.returns-after-label
-returns-after-label g c =
+pub returns-in_ok-rest-in-len1-up : goal.returns-in_ok-rest-in-len1-up
+returns-in_ok-rest-in-len1-up g c =
     let x = c.args.text.now in
     let d = c.in_ok-rest-in-len1-up.ensures in
-    let n = take (length x - length c.in_ok-rest-in-len1-up.rest.now) x in
-    let m : c.match-label.draft ≡ labelled (g.N.Naming.labels c.args.names.now n) (length x) c.args.draft.now =
-    elim c.match-label.branch [
-      | in-Some w ↦ w.draft-is ∙ w.add-in-Some.ensures ∙ ap (λ (o : Option ℕ). labelled o (length x) c.args.draft.now) w.in-Some.ensures
-      | in-None w ↦ w.draft-is ∙ w.note.ensures ∙ ap (noted (length x)) w.add-in-None.ensures ∙ ap (λ (o : Option ℕ). labelled o (length x) c.args.draft.now) w.in-None.ensures
-    ]
-    in
-    name_read (g.N.Naming.labels c.args.names.now) (get_or x 0 0) d.0 x _ c.in_ok-rest-in-len1-up.rest.now c.args.draft.now c.match-label.draft (front x (get_or x 0 0) (search rules) (search rules)) (sym c.if-is_letter.ensures) d.1 d.2 d.3 m
-
-pub returns-in_default : goal.returns-in_default
-returns-in_default g c =
-    elim c.in_default.branch [
-      | in_default-via-then-text-lt1 w ↦ no_test c.args.text.now (search rules) (search rules)
-      | in_default-via-in-len1-up+else-is_letter w ↦ no_test c.args.text.now (search rules) (λ h. sym w.is_letter.ensures ∙ w.if-is_letter.false)
-    ]
+    name_read _ (get_or x 0 0) d.0 x _ c.in_ok-rest-in-len1-up.rest.now c.args.draft.now c.name.new.self (search (rules, front)) (sym c.if-is_letter.ensures) d.1 d.2 d.3
+    (c.name.ensures ∙ ap (λ (o : Option ℕ). labelled o (length x) c.args.draft.now) c.label-label.ensures)
