@@ -2,9 +2,10 @@
 use model::axis::Axis;
 
 // What a part is.
-#[derive(Clone, Copy, PartialEq, Eq, Debug)]
+#[derive(Clone, Copy, PartialEq, Eq, Debug, Default)]
 pub enum Tag {
     // Where a query starts: the first element. In the table's first place, `first` is the place of the query's last part.
+    #[default]
     First,
     // The test "*".
     Any,
@@ -26,7 +27,7 @@ pub enum Tag {
     Step(Axis),
 }
 
-#[derive(Clone, Copy, PartialEq, Eq, Debug)]
+#[derive(Clone, Copy, PartialEq, Eq, Debug, Default)]
 pub struct Part {
     pub tag: Tag,
     pub first: usize,
