@@ -129,13 +129,12 @@ fn limit(text: &[u8], draft: &Draft, room: usize) -> Result<(), QueryFault>
 
 // Writes the draft's parts into the first places of the table; the first one names the last.
 fn copy(draft: &Draft, table: &mut [Part])
-    requires some { 1 ≤ draft.now.used }
-    requires drafted { draft.now.used ≤ most_parts }
-    requires room { draft.now.used ≤ length table.old }
-    ensures { Copied draft.now.used draft.now.parts table.old table.new }
+    requires some { 1 ≤ length draft.now.parts.items }
+    requires room { length draft.now.parts.items ≤ length table.old }
+    ensures { Copied draft.now.parts.items table.old table.new }
 {
-    let used = draft.used;
-    table[..used].copy_from_slice(&draft.parts[..used]);
+    let used = draft.parts.len();
+    table[..used].copy_from_slice(draft.parts.as_slice());
     table[0] = Part {
         tag: Tag::First,
         first: used - 1,
@@ -157,7 +156,7 @@ pub fn read<N: Naming>(text: &[u8], names: &N, table: &mut [Part]) -> Result<Que
     copy(&draft, table);
     Ok(QuerySize {
         steps: draft.count,
-        places: draft.used,
+        places: draft.parts.len(),
     })
 }
 

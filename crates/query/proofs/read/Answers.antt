@@ -1,4 +1,4 @@
-use Rattle.std.proofs.Common.{length, Ok, refl, rules, arith}
+use Rattle.std.proofs.Common.{◌≡◌, length, Ok, refl, rules, arith}
 use Rattle.std.proofs.lemmas.Result.{err_from_is_err_and}
 use Rattle.query.specs.Answers.{Sized, Answered}
 use Rattle.query.specs.Limits.{Tree}
@@ -35,7 +35,7 @@ copy-requires g c =
     let labels = g.N.Naming.labels c.args.names.now in
     let d = c.parse.new.draft in
     let r = room t labels (length c.args.table.now) d (from_start t labels c.start-draft.result d c.start-draft.ensures c.in_ok-parse.ensures) c.in_ok-limit.ensures in
-    record { some = r.some; drafted = r.drafted; room = r.room }
+    record { some = r.some; room = r.room }
 
 pub returns : goal.returns
 returns g c =
@@ -46,4 +46,5 @@ returns g c =
     let d = c.parse.new.draft in
     let k : Tree t labels started d = from_start t labels c.start-draft.result d c.start-draft.ensures c.in_ok-parse.ensures in
     let a = accepted t labels table c.copy.new.table d s k c.in_ok-limit.ensures c.copy.ensures in
-    record { answers = a; only = one_answer t labels table c.copy.new.table (Ok (record { steps = d.count; places = d.used })) a }
+    let e : c.len.result ≡ length d.parts.items = search rules in
+    rw e (record { answers = a; only = one_answer t labels table c.copy.new.table (Ok (record { steps = d.count; places = length d.parts.items })) a })
