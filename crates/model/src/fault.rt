@@ -44,6 +44,7 @@ impl fmt::Display for Layer {
 // A refusal as callers are told of it: its number, the layer that refuses, and the place of what is wrong.
 #[derive(Clone, Copy, PartialEq, Eq, Debug)]
 pub struct Refusal {
+    // The number itself: callers and their customers go by it.
     pub number: u8,
     pub layer: Layer,
     pub place: usize,

@@ -122,7 +122,7 @@ fn run_of_names(sheet: &[u8]) -> Result<(), NamesFault>
     }
 }
 
-// Whether each row stands once, or the fault of the first that stands earlier too.
+// Whether each row stands once, or the fault of the first that stands earlier too. `start` is a place in the bytes, no count of rows.
 fn no_repeat(sheet: &[u8]) -> Result<(), NamesFault>
     ensures { result ≡ repeated (first_repeat (rows sheet.now)) }
 {

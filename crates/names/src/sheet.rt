@@ -11,6 +11,7 @@ pub mod read;
 #[derive(Clone, Copy)]
 pub struct Sheet<'a> {
     bytes: &'a [u8],
+    // Beside the bytes, since `read` refuses nothing and its callers ask afterwards.
     fault: Option<NamesFault>,
     ghost few: { names_among fault bytes.now ≤ most_names },
 }

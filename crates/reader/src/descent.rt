@@ -1,4 +1,5 @@
 // Recursive descent over paths, steps and filters. Each reader takes a tree off the front of the text and drafts its parts.
+// Names and draft are parameters: a struct of the two would want of each reader that it keeps the names.
 ghost use Rattle.std.specs.Prelude.{◌≡◌, ◌≤◌, length};
 ghost use Rattle.std.specs.List.{prefix_len};
 ghost use Rattle.model.specs.Names.{is_name_byte};

@@ -16,7 +16,7 @@ pub struct Stuck {
 pub struct Draft {
     // The parts that are written; what finds no room is dropped.
     pub parts: ArrayVec<Part, MOST_PARTS>,
-    // The length so far; one more than the greatest stands for all above.
+    // The length so far; one more than the greatest stands for all above, a number like the others so that counting needs no cases.
     pub count: usize,
     // How many bytes are left from the first unknown name on.
     pub unknown: Option<usize>,
@@ -70,7 +70,7 @@ impl Draft {
         self.unknown = self.unknown.or(Some(left));
     }
 
-    // A name that has this label, or none, with so many bytes left.
+    // A name that has this label, or none, with so many bytes left. The part of an unknown name has label 0, as no element has, and reaches no table.
     pub(crate) fn name(&mut self, label: Option<usize>, left: usize)
         ensures { self.new ≡ labelled label left self.old }
     {

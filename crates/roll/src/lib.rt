@@ -21,6 +21,7 @@ pub struct Roll<'a> {
     levels: &'a [u8],
     labels: &'a [u8],
     depth: u8,
+    // Beside the rows, since `read` refuses nothing and its callers ask afterwards.
     fault: Option<RollFault>,
     ghost paired: { length labels.now ≡ length levels.now },
     ghost lawful: { Lawful (told levels.now labels.now depth) },

@@ -1,4 +1,4 @@
-// Scans of levels for the nearest one that is no deeper than a level.
+// Scans of levels for the nearest one that is no deeper than a level: two, since they go opposite ways.
 ghost use Rattle.std.specs.Prelude.{◌+◌, ◌<◌, ◌≤◌, length, slice_index, MatchOption};
 ghost use Rattle.roll.specs.Deeper.{Deeper};
 

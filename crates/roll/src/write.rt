@@ -55,6 +55,7 @@ pub fn write_roll<S: Store>(store: &S, memory: &mut [u8]) -> Result<usize, RollF
         return Err(RollFault::ShortMemory);
     }
     let labels_at = HEADER_LENGTH + count;
+    // Each rank has a level and a label; `unwrap` would want clauses on the closures.
     memory[..HEADER_LENGTH].copy_from_slice(&header(store.depth(), count as u16));
     write_row(
         &mut memory[HEADER_LENGTH..labels_at],

@@ -11,7 +11,7 @@ use crate::role::Role;
 use arrayvec::ArrayVec;
 use model::limits::{MOST_LABEL, MOST_LENGTH, MOST_PARTS};
 
-// Stands for all lengths above the greatest.
+// Stands for all lengths above the greatest; a number, so that sums go on with it and need no cases.
 const TOO_MUCH: usize = MOST_LENGTH + 1;
 
 // What stands in where no part serves: self::* counts one step, "*" and the start none.

@@ -29,6 +29,7 @@ pub enum Tag {
 
 #[derive(Clone, Copy, PartialEq, Eq, Debug, Default)]
 pub struct Part {
+    // A tag and two numbers in every place: the form in which a table is lent.
     pub tag: Tag,
     pub first: usize,
     pub second: usize,

@@ -90,7 +90,7 @@ impl Till {
         }
     }
 
-    // Does the actions in their order, and answers how many were accepted.
+    // Does the actions in their order, and answers how many were accepted. A loop: a chain's closure would change the till unseen.
     pub fn run(&mut self, actions: &[Action]) -> usize
         ensures counts { result ≡ length (accepted actions.now (receipt_of self.old)) }
         ensures holds { receipt_of self.new ≡ after actions.now (receipt_of self.old) }
