@@ -1,7 +1,8 @@
 -- The roll of a lawful receipt is accepted and tells that receipt.
-use Rattle.std.proofs.Common.{◌≡◌, ℕ, ◌+◌, ◌-◌, ◌/◌, ◌%◌, ◌^◌, ◌<◌, ◌≤◌, false, not, eqb, ltb, List, [], ◌∷◌, None, sym, refl, ap, ◌∙◌, ⊎_elim, arith}
+use Rattle.std.proofs.Common.{◌≡◌, ℕ, ◌+◌, ◌-◌, ◌/◌, ◌%◌, ◌^◌, ◌<◌, ◌≤◌, false, eqb, List, [], ◌∷◌, None, sym, refl, ap, ◌∙◌, ⊎_elim, arith}
 use Rattle.std.proofs.lemmas.List.FromFn.{fill_by_all}
-use Rattle.std.proofs.lemmas.Bool.{or_from, eq-eqb, ne_eqb, le-ltb, lt-leb, not_from_true, cases_eq, cond-true, cond-false}
+use Rattle.std.proofs.lemmas.Bool.{ne_eqb, cases_eq, cond-false}
+use Rattle.std.proofs.lemmas.Bool.Decides.{nat_tests}
 use Rattle.model.specs.Limits.{most_label, most_depth}
 use Rattle.model.specs.Receipt.{Receipt, Lawful, absent, count_of, level_at, label_at}
 use Rattle.model.specs.Roll.{header_length, roll_of}
@@ -16,15 +17,13 @@ two_written bytes at n h p q =
 
 -- Each test is false where its rule holds.
 keeps_first : (i u v : ℕ) → i ≡ 0 → v ≡ 0 → wrong_level i u v ≡ false
-keeps_first i u v e z = cond-true (eqb i 0) (not (eqb v 0)) _ (eq-eqb i 0 e) ∙ not_from_true (eqb v 0) (eq-eqb v 0 z)
+keeps_first i u v e z = grind (arith, nat_tests)
 
 keeps_later : (i u v : ℕ) → 0 < i → 1 ≤ v → v ≤ u + 1 → v < most_depth → wrong_level i u v ≡ false
-keeps_later i u v h one up low =
-    cond-false (eqb i 0) (not (eqb v 0)) _ (ne_eqb i 0 (λ e. omega arith))
-    ∙ or_from (eqb v 0) _ (ne_eqb v 0 (λ e. omega arith)) (or_from (ltb (u + 1) v) _ (le-ltb (u + 1) v up) (lt-leb most_depth v low))
+keeps_later i u v h one up low = grind (arith, nat_tests)
 
 keeps_label : (v : ℕ) → 1 ≤ v → v ≤ most_label → wrong_label v ≡ false
-keeps_label v low high = or_from (eqb v 0) _ (ne_eqb v 0 (λ e. omega arith)) (le-ltb most_label v high)
+keeps_label v low high = grind (arith, nat_tests)
 
 module _ (r : Receipt) (w : Lawful r) where
   abbrev bytes : List ℕ

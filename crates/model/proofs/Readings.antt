@@ -1,9 +1,11 @@
 -- Bytes that are read as a roll: what acceptance says, and that rolls and accepted bytes are the same.
-use Rattle.std.proofs.Common.{◌≡◌, ℕ, zero, suc, ◌+◌, ◌-◌, ◌<◌, ◌≤◌, Bool, true, false, cond, not, eqb, ltb, List, [], ◌∷◌, ◌++◌, length, get_or, Some, None, Option, sym, refl, ap, ◌∙◌, ⊎_elim, arith}
+use Rattle.std.proofs.Common.{◌≡◌, ℕ, zero, suc, ◌+◌, ◌-◌, ◌<◌, ◌≤◌, Bool, true, false, cond, eqb, List, [], ◌∷◌, ◌++◌, length, get_or, Some, None, Option, sym, refl, ap, ◌∙◌, ⊎_elim, arith}
 use Rattle.std.specs.Int.Digits.{AllBelowBase}
 use Rattle.std.proofs.lemmas.List.FromFn.{length-map-range_with_len, get_or-map-range_with_len}
 use Rattle.std.proofs.lemmas.List.{ext_get_or}
-use Rattle.std.proofs.lemmas.Bool.{or_parts, or_from, not-false, not_from_true, eqb-true, eqb-false, eq-eqb, ne_eqb, ltb-false, le-ltb, leb-false, cases_eq, cases_lt, cond-true, cond-false, cond_both}
+use Rattle.std.proofs.lemmas.Bool.{ltb-false, cases_eq, cases_lt}
+use Rattle.std.proofs.lemmas.Bool.Decides.{nat_tests}
+use Rattle.std.proofs.lemmas.Option.{none-some}
 use Rattle.model.specs.declared.fault.RollFault.{RollFault}
 use Rattle.model.specs.declared.fault.RollFault.TheVariants.{NoRoll, BadLayout, BadDepth}
 use Rattle.model.specs.Limits.{most_elements, most_label, most_depth}
@@ -42,72 +44,60 @@ pub record Accepted (bytes : List ℕ) : Type 0 where
   pub depth_keeps : depth_in bytes ≤ greatest_depth bytes (count_in bytes)
 
 neither : (b : Bool) (f : RollFault) (o : Option RollFault) → cond b (Some f) o ≡ None → (b ≡ false) × (o ≡ None)
-neither true f o e = let z : ◌≡◌ {A = ℕ} 0 1 = cc in absurd (omega arith)
+neither true f o e = absurd (none-some f (sym e))
 neither false f o e = (refl, e)
 
 nowhere : (f : ℕ → RollFault) (o : Option ℕ) (next : Option RollFault) → fault_at f o next ≡ None → (o ≡ None) × (next ≡ None)
 nowhere f None next e = (refl, e)
-nowhere f (Some i) next e = let z : ◌≡◌ {A = ℕ} 0 1 = cc in absurd (omega arith)
-
-equal : (a b : ℕ) → not (eqb a b) ≡ false → a ≡ b
-equal a b e = eqb-true a b (not-false (eqb a b) e)
+nowhere f (Some i) next e = absurd (none-some (f i) (sym e))
 
 pub accepted : (bytes : List ℕ) → reading_fault bytes ≡ None → Accepted bytes
 unfolding reading_fault
 accepted bytes e =
     let a = neither (foreign bytes) NoRoll _ e in
-    let head = or_parts (ltb (length bytes) header_length) _ a.0 in
     let b = neither (misplaced bytes) BadLayout _ a.1 in
-    let m = or_parts (ltb most_elements (count_in bytes)) _ b.0 in
-    let m' = or_parts (not (eqb (two_bytes_at bytes 4) header_length)) _ m.1 in
-    let m'' = or_parts (not (eqb (two_bytes_at bytes 6) (header_length + count_in bytes))) _ m'.1 in
     let c = nowhere _ (first_where (level_breaks bytes) (count_in bytes)) _ b.1 in
     let d = nowhere _ (first_where (label_breaks bytes (count_in bytes)) (count_in bytes)) _ c.1 in
     let f = neither _ BadDepth None d.1 in
+    let foreign_not = a.0 in
+    let misplaced_not = b.0 in
     record {
-      long = ltb-false (length bytes) header_length head.0;
-      edited = equal (byte_at bytes 0) edition head.1;
-      few = ltb-false most_elements (count_in bytes) m.0;
-      levels_at = equal (two_bytes_at bytes 4) header_length m'.0;
-      labels_at = equal (two_bytes_at bytes 6) (header_length + count_in bytes) m''.0;
-      whole = equal (length bytes) (roll_length (count_in bytes)) m''.1;
+      long = grind (arith, nat_tests);
+      edited = grind (arith, nat_tests);
+      few = grind (arith, nat_tests);
+      levels_at = grind (arith, nat_tests);
+      labels_at = grind (arith, nat_tests);
+      whole = grind (arith, nat_tests);
       levels_keep = first_none_all (level_breaks bytes) (count_in bytes) c.0;
       labels_keep = first_none_all (label_breaks bytes (count_in bytes)) (count_in bytes) d.0;
       depth_keeps = ltb-false (greatest_depth bytes (count_in bytes)) (depth_in bytes) f.0;
     }
 
-unequal : (a b : ℕ) → a ≡ b → not (eqb a b) ≡ false
-unequal a b e = not_from_true (eqb a b) (eq-eqb a b e)
+own : (bytes : List ℕ) → Accepted bytes → foreign bytes ≡ false
+own bytes a = grind (arith, nat_tests, a.long, a.edited)
+
+placed : (bytes : List ℕ) → Accepted bytes → misplaced bytes ≡ false
+placed bytes a = grind (arith, nat_tests, a.few, a.levels_at, a.labels_at, a.whole)
 
 pub accepted_is : (bytes : List ℕ) → Accepted bytes → reading_fault bytes ≡ None
 accepted_is bytes a =
-    no_fault bytes (or_from _ _ (le-ltb (length bytes) header_length a.long) (unequal (byte_at bytes 0) edition a.edited))
-    (or_from _ _ (le-ltb most_elements (count_in bytes) a.few)
-    (or_from _ _ (unequal _ header_length a.levels_at)
-    (or_from _ _ (unequal _ (header_length + count_in bytes) a.labels_at) (unequal _ (roll_length (count_in bytes)) a.whole))))
-    (first_none (level_breaks bytes) (count_in bytes) a.levels_keep)
-    (first_none (label_breaks bytes (count_in bytes)) (count_in bytes) a.labels_keep)
-    a.depth_keeps
+    no_fault bytes (own bytes a) (placed bytes a) (first_none (level_breaks bytes) (count_in bytes) a.levels_keep) (first_none (label_breaks bytes (count_in bytes)) (count_in bytes) a.labels_keep) a.depth_keeps
 
 -- What each test says where it is false.
 first_keeps : (i u v : ℕ) → wrong_level i u v ≡ false → i ≡ 0 → v ≡ 0
-first_keeps i u v k e = equal v 0 (sym (cond-true (eqb i 0) (not (eqb v 0)) _ (eq-eqb i 0 e)) ∙ k)
+first_keeps i u v k e = grind (arith, nat_tests)
 
 later_keeps : (i u v : ℕ) → wrong_level i u v ≡ false → 0 < i → (1 ≤ v) × (v ≤ u + 1) × (v < most_depth)
-later_keeps i u v k h =
-    let p = or_parts (eqb v 0) _ (sym (cond-false (eqb i 0) (not (eqb v 0)) _ (ne_eqb i 0 (λ e. omega arith))) ∙ k) in
-    let q = or_parts (ltb (u + 1) v) _ p.1 in
-    let nz = eqb-false v 0 p.0 in
-    (omega arith, ltb-false (u + 1) v q.0, leb-false most_depth v q.1)
+later_keeps i u v k h = (grind (arith, nat_tests), grind (arith, nat_tests), grind (arith, nat_tests))
 
 label_keeps : (v : ℕ) → wrong_label v ≡ false → (1 ≤ v) × (v ≤ most_label)
-label_keeps v k = let p = or_parts (eqb v 0) _ k in let nz = eqb-false v 0 p.0 in (omega arith, ltb-false most_label v p.1)
+label_keeps v k = (grind (arith, nat_tests), grind (arith, nat_tests))
 
 depth_empty : (n d l : ℕ) → d ≤ cond (eqb n 0) 0 (l + 1) → n ≡ 0 → d ≡ 0
-depth_empty n d l h e = let c : cond (eqb n 0) 0 (l + 1) ≡ 0 = cond-true (eqb n 0) 0 (l + 1) (eq-eqb n 0 e) in omega arith
+depth_empty n d l h e = grind (arith, nat_tests)
 
 depth_open : (n d l : ℕ) → d ≤ cond (eqb n 0) 0 (l + 1) → d ≤ l + 1
-depth_open n d l h = cond_both (eqb n 0) 0 (l + 1) (λ m. d ≤ m → d ≤ l + 1) (λ e k. omega arith) (λ e k. k) h
+depth_open n d l h = grind (arith, nat_tests)
 
 -- the bytes of the header
 abbrev pub first_eight : List ℕ → List ℕ
