@@ -20,6 +20,9 @@ module _ (r : Receipt) (l : ℕ) where
   pub level_old : (k : ℕ) → k < count_of r → level_at (opened r l) k ≡ level_at r k
   level_old k h = ap (λ (e : Element). e.level) (get_or_append_left r.elements (fresh r l ∷ []) absent k h)
 
+  label_old : (k : ℕ) → k < count_of r → label_at (opened r l) k ≡ label_at r k
+  label_old k h = ap (λ (e : Element). e.label) (get_or_append_left r.elements (fresh r l ∷ []) absent k h)
+
   pub element_old : (k : ℕ) → k < count_of r → get_or (opened r l).elements k absent ≡ get_or r.elements k absent
   element_old k h = get_or_append_left r.elements (fresh r l ∷ []) absent k h
 
@@ -162,18 +165,13 @@ module _ (r : Receipt) (l : ℕ) where
       let v = level_new in
       record {
         few = omega arith;
-        first = λ h. ⊎_elim (λ (z : count_of r ≡ 0). let e = w.empty_depth z in let q = ap (level_at (opened r l)) z in omega arith)
-            (λ nz. level_old 0 (omega arith) ∙ w.first (omega arith)) (cases_eq (count_of r) 0);
+        first = λ h. let o = level_old 0 in let f = w.first in let e = w.empty_depth in grind arith;
         later = λ i h. ⊎_elim
-            (λ (z : i + 1 ≡ count_of r). let q = ap (level_at (opened r l)) z in let o = level_old i (omega arith) in let u = w.open_depth i z in let d = live (omega arith) in (omega arith, omega arith))
+            (λ (z : i + 1 ≡ count_of r). let o = level_old i (omega arith) in let u = w.open_depth i z in let d = live (omega arith) in (grind arith, grind arith))
             (λ nz. let x = w.later i (omega arith) in let a = level_old (i + 1) (omega arith) in let b = level_old i (omega arith) in (omega arith, omega arith))
             (cases_eq (i + 1) (count_of r));
-        shallow = λ i h. ⊎_elim (λ (z : i ≡ count_of r). let q = ap (level_at (opened r l)) z in omega arith)
-            (λ nz. let x = w.shallow i (omega arith) in let a = level_old i (omega arith) in omega arith) (cases_eq i (count_of r));
-        named = λ i h. ⊎_elim
-            (λ (z : i ≡ count_of r). let q = ap (label_at (opened r l)) z ∙ label_new in (omega arith, omega arith))
-            (λ nz. let x = w.named i (omega arith) in let a = ap (λ (e : Element). e.label) (element_old i (omega arith)) in (omega arith, omega arith))
-            (cases_eq i (count_of r));
+        shallow = λ i h. let o = level_old i in let x = w.shallow i in grind arith;
+        named = λ i h. let n = label_new in let o = label_old i in let x = w.named i in (grind arith, grind arith);
         empty_depth = λ z. absurd (omega arith);
-        open_depth = λ i z. let q : i ≡ count_of r = omega arith in let x = ap (level_at (opened r l)) q in omega arith;
+        open_depth = λ i z. grind arith;
       }
