@@ -17,20 +17,23 @@ module _ (r : Receipt) (l : ℕ) where
   pub count_more : count_of (opened r l) ≡ count_of r + 1
   count_more = length-append r.elements (fresh r l ∷ [])
 
-  pub level_old : (k : ℕ) → k < count_of r → level_at (opened r l) k ≡ level_at r k
-  level_old k h = ap (λ (e : Element). e.level) (get_or_append_left r.elements (fresh r l ∷ []) absent k h)
-
-  label_old : (k : ℕ) → k < count_of r → label_at (opened r l) k ≡ label_at r k
-  label_old k h = ap (λ (e : Element). e.label) (get_or_append_left r.elements (fresh r l ∷ []) absent k h)
-
   pub element_old : (k : ℕ) → k < count_of r → get_or (opened r l).elements k absent ≡ get_or r.elements k absent
   element_old k h = get_or_append_left r.elements (fresh r l ∷ []) absent k h
 
+  element_new : get_or (opened r l).elements (count_of r) absent ≡ fresh r l
+  element_new = get_or_push r.elements (fresh r l) absent (count_of r) refl
+
+  pub level_old : (k : ℕ) → k < count_of r → level_at (opened r l) k ≡ level_at r k
+  level_old k h = ap (λ (e : Element). e.level) (element_old k h)
+
+  pub label_old : (k : ℕ) → k < count_of r → label_at (opened r l) k ≡ label_at r k
+  label_old k h = ap (λ (e : Element). e.label) (element_old k h)
+
   pub level_new : level_at (opened r l) (count_of r) ≡ r.depth
-  level_new = ap (λ (e : Element). e.level) (get_or_push r.elements (fresh r l) absent (count_of r) refl)
+  level_new = ap (λ (e : Element). e.level) element_new
 
   label_new : label_at (opened r l) (count_of r) ≡ l
-  label_new = ap (λ (e : Element). e.label) (get_or_push r.elements (fresh r l) absent (count_of r) refl)
+  label_new = ap (λ (e : Element). e.label) element_new
 
   nearest_old : (v k : ℕ) → k ≤ count_of r → nearest (opened r l).elements v k ≡ nearest r.elements v k
   unfolding nearest
@@ -42,19 +45,18 @@ module _ (r : Receipt) (l : ℕ) where
       let m = count_more in
       let a = inside (opened r l) j (nearest (opened r l).elements (level_at (opened r l) j) j) (omega arith) in
       let b = inside r j (nearest r.elements (level_at r j) j) h in
-      let c = nearest_old (level_at (opened r l) j) j (omega arith) in
-      let d = ap (λ v. nearest r.elements v j) (level_old j h) in
-      a ∙ c ∙ d ∙ sym b
+      let c = nearest_old (level_at r j) j (omega arith) in
+      let d = level_old j h in
+      cc
 
   pub parent_new : parent_of (opened r l) (count_of r) ≡ innermost r
   parent_new =
       let m = count_more in
-      let a = inside (opened r l) (count_of r) (nearest (opened r l).elements (level_at (opened r l) (count_of r)) (count_of r)) (omega arith) in
-      let c = nearest_old (level_at (opened r l) (count_of r)) (count_of r) (omega arith) in
-      a ∙ c ∙ ap (λ v. nearest r.elements v (count_of r)) level_new
+      let c = nearest_old r.depth (count_of r) (omega arith) in
+      inside (opened r l) (count_of r) _ (omega arith) ∙ rw level_new c
 
   same_old : (j i : ℕ) → j < count_of r → i < count_of r → same_rank (parent_of (opened r l) j) (parent_of (opened r l) i) ≡ same_rank (parent_of r j) (parent_of r i)
-  same_old j i h k = let a = parent_old j h in let b = parent_old i k in ap (λ x. same_rank x (parent_of (opened r l) i)) a ∙ ap (same_rank (parent_of r j)) b
+  same_old j i h k = let a = parent_old j h in let b = parent_old i k in cc
 
   pub prev_old : (i : ℕ) → i < count_of r → previous_sibling_of (opened r l) i ≡ previous_sibling_of r i
   prev_old i h =
@@ -65,7 +67,7 @@ module _ (r : Receipt) (l : ℕ) where
   prev_new =
       let m = count_more in
       inside (opened r l) (count_of r) _ (omega arith)
-      ∙ last_cong _ (λ j. same_rank (parent_of r j) (innermost r)) (count_of r) (λ j b. ap (λ x. same_rank x (parent_of (opened r l) (count_of r))) (parent_old j b) ∙ ap (same_rank (parent_of r j)) parent_new)
+      ∙ last_cong _ (λ j. same_rank (parent_of r j) (innermost r)) (count_of r) (λ j b. let a = parent_old j b in let c = parent_new in cc)
 
   -- The tests of `first_child_of` and `next_sibling_of`.
   abbrev child' : ℕ → ℕ → Bool
@@ -90,9 +92,7 @@ module _ (r : Receipt) (l : ℕ) where
   later_old i j h k = ap (λ b. ltb i j && b) (same_old j i k h)
 
   later_new : (i : ℕ) → i < count_of r → later' i (count_of r) ≡ same_rank (innermost r) (parent_of r i)
-  later_new i h =
-      let e = ap (λ x. same_rank x (parent_of (opened r l) i)) parent_new ∙ ap (same_rank (innermost r)) (parent_old i h) in
-      ap (λ b. b && same_rank (parent_of (opened r l) (count_of r)) (parent_of (opened r l) i)) (lt-ltb i (count_of r) h) ∙ e
+  later_new i h = ap (λ b. b && same_rank (parent_of (opened r l) (count_of r)) (parent_of (opened r l) i)) (lt-ltb i (count_of r) h) ∙ (let a = parent_new in let b = parent_old i h in cc)
 
   first_kept : (i : ℕ) → i < count_of r → first_where (child' i) (count_of r) ≡ first_child_of r i
   first_kept i h = first_cong _ _ (count_of r) (λ j b. child_old i j b) ∙ sym (inside r i _ h)

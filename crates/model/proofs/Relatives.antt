@@ -1,5 +1,5 @@
 -- Parents: that they exist, which one it is, and what stands between.
-use Rattle.std.proofs.Common.{◌≡◌, ℕ, zero, suc, ◌+◌, ◌-◌, ◌<◌, ◌≤◌, ltb, Some, None, Option, ap, ⊎_elim, add-one, arith}
+use Rattle.std.proofs.Common.{◌≡◌, ℕ, zero, suc, ◌+◌, ◌-◌, ◌<◌, ◌≤◌, ltb, Some, None, Option, ⊎_elim, add-one, arith}
 use Rattle.std.proofs.lemmas.Bool.{cases_eq, cond-true, lt-ltb}
 use Rattle.std.proofs.lemmas.Bool.Decides.{nat_tests}
 use Rattle.std.proofs.lemmas.Option.{none-some}
@@ -60,7 +60,7 @@ nearest_is r v (suc k) p h q misses = ⊎_elim
 
 -- What stands between an element and its parent is no higher than the element.
 between_from : (r : Receipt) → Lawful r → (i p : ℕ) → i < count_of r → nearest r.elements (level_at r i) i ≡ Some p → (m k : ℕ) → k + m ≡ i → p < k → level_at r i ≤ level_at r k
-between_from r l i p h e zero k s a = let q : k ≡ i = omega arith in let x = ap (level_at r) q in omega arith
+between_from r l i p h e zero k s a = let q : k ≡ i = omega arith in grind arith
 between_from r l i p h e (suc m) k s a =
     let ih = between_from r l i p h e m (k + 1) (omega arith) (omega arith) in
     let up = (l.later k (omega arith)).1 in
