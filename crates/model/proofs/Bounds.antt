@@ -19,7 +19,7 @@ child_bound r i None e = tt
 child_bound r i (Some c) e =
     let w = within_some r i c _ (sym e) in
     let s = first_some _ (count_of r) c w.1 in
-    let p = parent_some r c i (same_is (parent_of r c) i s.1) in
+    let p = parent_some r c i (same_is (parent_of r c) (Some i) s.1) in
     (p.1, s.0)
 
 pub next_bound : (r : Receipt) (i : ℕ) (o : Option ℕ) → o ≡ next_sibling_of r i → IfSome o (λ s. (i < s) × (s < count_of r))

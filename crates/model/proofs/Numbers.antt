@@ -29,8 +29,4 @@ number_read (suc w) bytes e u =
     let low = All-get_or (λ d. d < 256) bytes w 0 here u in
     let m = ap number_in whole ∙ number_push 256 front last in
     let ih = number_read w front (length-take-le w bytes (omega arith)) (All-take (λ d. d < 256) w bytes u) in
-    ap (λ n. big_endian w (n / 256) ++ (n % 256 ∷ [])) m
-    ∙ ap (λ n. big_endian w n ++ ((number_in front * 256 + last) % 256 ∷ [])) (digits_div (number_in front) low)
-    ∙ ap (λ d. big_endian w (number_in front) ++ (d ∷ [])) (digits_mod (number_in front) low)
-    ∙ ap (λ zs. zs ++ (last ∷ [])) ih
-    ∙ sym whole
+    rw (m, digits_div (number_in front) low, digits_mod (number_in front) low, ih) (sym whole)

@@ -1,17 +1,14 @@
 -- What an opening does to the relatives of each element.
 use Rattle.std.proofs.Common.{◌≡◌, ℕ, zero, suc, ◌+◌, ◌<◌, ◌≤◌, Bool, true, false, ◌&&◌, ltb, [], ◌∷◌, get_or, Some, None, Option, sym, refl, ap, ◌∙◌, ⊎_elim, add-one, arith, length-append}
-use Rattle.std.proofs.lemmas.Bool.{cases_eq, cases_lt, eq-eqb, cases_Bool, lt-ltb, le-ltb, and_left, and_right, and_from, both_ways}
+use Rattle.std.proofs.lemmas.Bool.{cases_lt, cases_Bool, lt-ltb, le-ltb, and_left, and_right, and_from, both_ways}
 use Rattle.std.proofs.lemmas.List.{get_or_append_left, get_or_push}
 use Rattle.model.specs.Receipt.{Element, Receipt, Lawful, absent, count_of, level_at, label_at, nearest, parent_of, first_child_of, next_sibling_of, previous_sibling_of, first_where, same_rank, innermost, last_inside, opened}
 use Rattle.model.specs.Limits.{most_elements, most_label, most_depth}
 use Rattle.model.proofs.Relatives.{inside, parent_some}
-use Rattle.model.proofs.Search.{last_cong, last_some, last_none_all, first_cong, first_none, first_more, first_new, first_same, apart_rank, same_rank_lem, same_parts}
+use Rattle.model.proofs.Search.{last_cong, last_some, last_none_all, first_cong, first_none, first_more, first_new, first_same, apart_rank, same_rank_lem, same_is, same_rank_sym}
 
 abbrev fresh : Receipt → ℕ → Element
 fresh r l = record { label = l; level = r.depth }
-
-same_from : (a b : Option ℕ) (x : ℕ) → a ≡ Some x → b ≡ Some x → same_rank a b ≡ true
-same_from a b x p q = rw (p, q) (eq-eqb x x refl)
 
 module _ (r : Receipt) (l : ℕ) where
   pub count_more : count_of (opened r l) ≡ count_of r + 1
@@ -123,34 +120,30 @@ module _ (r : Receipt) (l : ℕ) where
 
   pub first_else : (i : ℕ) → i < count_of r → (innermost r ≡ Some i → last_inside r ≡ None → ⊥) → first_child_of (opened r l) i ≡ first_child_of r i
   first_else i h ne = ⊎_elim
-      (λ (t : child' i (count_of r) ≡ true).
-      let u = same_parts (innermost r) (Some i) (sym (child_new i) ∙ t) in
-      let u' : innermost r ≡ Some i = u.1 ∙ sym u.2 in
-      first_by i h ne u' (last_inside r) refl)
+      (λ (t : child' i (count_of r) ≡ true). first_by i h ne (same_is (innermost r) (Some i) (sym (child_new i) ∙ t)) (last_inside r) refl)
       (λ (t : child' i (count_of r) ≡ false). first_opens i (omega arith) ∙ first_same (child' i) (count_of r) t ∙ first_kept i h)
       (cases_Bool (child' i (count_of r)))
 
   pub next_at : (i : ℕ) → last_inside r ≡ Some i → next_sibling_of (opened r l) i ≡ Some (count_of r)
   next_at i e =
       let s = last_some _ (count_of r) i e in
-      let u = same_parts (parent_of r i) (innermost r) s.1 in
+      let u = same_is (parent_of r i) (innermost r) s.1 in
       let nobody : (j : ℕ) → j < count_of r → later' i j ≡ false =
       λ j b. ⊎_elim
-      (λ c. later_old i j s.0 b ∙ and_right (ltb i j) _ (ap (same_rank (parent_of r j)) (u.1 ∙ sym u.2) ∙ s.2 j c b))
+      (λ c. later_old i j s.0 b ∙ and_right (ltb i j) _ (ap (same_rank (parent_of r j)) u ∙ s.2 j c b))
       (λ c. and_left (ltb i j) _ (le-ltb i j c)) (cases_lt i j) in
-      next_opens i (omega arith) ∙ first_new (later' i) (count_of r) nobody (later_new i s.0 ∙ same_from (innermost r) (parent_of r i) u.0 u.2 u.1)
+      next_opens i (omega arith) ∙ first_new (later' i) (count_of r) nobody (later_new i s.0 ∙ same_rank_sym (parent_of r i) (innermost r) s.1)
 
   next_by : (i : ℕ) → i < count_of r → (last_inside r ≡ Some i → ⊥) → same_rank (innermost r) (parent_of r i) ≡ true → (o : Option ℕ) → last_inside r ≡ o → next_sibling_of (opened r l) i ≡ next_sibling_of r i
   next_by i h ne t None e =
-      let u = same_parts (innermost r) (parent_of r i) t in
-      absurd (both_ways _ (last_none_all _ (count_of r) e i h) (same_from (parent_of r i) (innermost r) u.0 u.2 u.1))
+      absurd (both_ways _ (last_none_all _ (count_of r) e i h) (same_rank_sym (innermost r) (parent_of r i) t))
   next_by i h ne t (Some q) e =
-      let u = same_parts (innermost r) (parent_of r i) t in
+      let u = same_is (innermost r) (parent_of r i) t in
       let s = last_some _ (count_of r) q e in
-      let sib = same_from (parent_of r i) (innermost r) u.0 u.2 u.1 in
-      let not_i : (i ≡ q) → ⊥ = λ (m : i ≡ q). ne (e ∙ ap Some (sym m)) in
-      let before : i < q = ⊎_elim (λ c. c) (λ c. absurd (both_ways _ (s.2 i (omega arith) h) sib)) (cases_lt i q) in
-      let k : later' i q ≡ true = later_old i q h s.0 ∙ and_from (ltb i q) _ (lt-ltb i q before) (ap (same_rank (parent_of r q)) (u.2 ∙ sym u.1) ∙ s.1) in
+      let sib = same_rank_sym (innermost r) (parent_of r i) t in
+      let miss = s.2 i in
+      let before : i < q = grind arith in
+      let k : later' i q ≡ true = later_old i q h s.0 ∙ and_from (ltb i q) _ (lt-ltb i q before) (ap (same_rank (parent_of r q)) (sym u) ∙ s.1) in
       next_opens i (omega arith) ∙ first_more (later' i) (count_of r) q s.0 k ∙ next_kept i h
 
   pub next_else : (i : ℕ) → i < count_of r → (last_inside r ≡ Some i → ⊥) → next_sibling_of (opened r l) i ≡ next_sibling_of r i
@@ -166,10 +159,7 @@ module _ (r : Receipt) (l : ℕ) where
       record {
         few = omega arith;
         first = λ h. let o = level_old 0 in let f = w.first in let e = w.empty_depth in grind arith;
-        later = λ i h. ⊎_elim
-            (λ (z : i + 1 ≡ count_of r). let o = level_old i (omega arith) in let u = w.open_depth i z in let d = live (omega arith) in (grind arith, grind arith))
-            (λ nz. let x = w.later i (omega arith) in let a = level_old (i + 1) (omega arith) in let b = level_old i (omega arith) in (omega arith, omega arith))
-            (cases_eq (i + 1) (count_of r));
+        later = λ i h. let x = w.later i in let a = level_old (i + 1) in let b = level_old i (omega arith) in let u = w.open_depth i in (grind arith, grind arith);
         shallow = λ i h. let o = level_old i in let x = w.shallow i in grind arith;
         named = λ i h. let n = label_new in let o = label_old i in let x = w.named i in (grind arith, grind arith);
         empty_depth = λ z. absurd (omega arith);

@@ -1,5 +1,5 @@
 -- Bytes that are read as a roll: what acceptance says, and that rolls and accepted bytes are the same.
-use Rattle.std.proofs.Common.{◌≡◌, ℕ, zero, suc, ◌+◌, ◌-◌, ◌<◌, ◌≤◌, Bool, true, false, cond, eqb, List, [], ◌∷◌, ◌++◌, length, get_or, Some, None, Option, sym, refl, ap, ◌∙◌, ⊎_elim, arith}
+use Rattle.std.proofs.Common.{◌≡◌, ℕ, zero, suc, ◌+◌, ◌-◌, ◌<◌, ◌≤◌, Bool, true, false, cond, List, [], ◌∷◌, length, get_or, Some, None, Option, sym, refl, ap, ◌∙◌, ⊎_elim, arith}
 use Rattle.std.specs.Int.Digits.{AllBelowBase}
 use Rattle.std.proofs.lemmas.List.FromFn.{length-map-range_with_len, get_or-map-range_with_len}
 use Rattle.std.proofs.lemmas.List.{ext_get_or}
@@ -83,21 +83,12 @@ pub accepted_is : (bytes : List ℕ) → Accepted bytes → reading_fault bytes 
 accepted_is bytes a =
     no_fault bytes (own bytes a) (placed bytes a) (first_none (level_breaks bytes) (count_in bytes) a.levels_keep) (first_none (label_breaks bytes (count_in bytes)) (count_in bytes) a.labels_keep) a.depth_keeps
 
--- What each test says where it is false.
-first_keeps : (i u v : ℕ) → wrong_level i u v ≡ false → i ≡ 0 → v ≡ 0
-first_keeps i u v k e = grind (arith, nat_tests)
-
+-- What the tests of a later level and of a label say where they are false.
 later_keeps : (i u v : ℕ) → wrong_level i u v ≡ false → 0 < i → (1 ≤ v) × (v ≤ u + 1) × (v < most_depth)
 later_keeps i u v k h = (grind (arith, nat_tests), grind (arith, nat_tests), grind (arith, nat_tests))
 
 label_keeps : (v : ℕ) → wrong_label v ≡ false → (1 ≤ v) × (v ≤ most_label)
 label_keeps v k = (grind (arith, nat_tests), grind (arith, nat_tests))
-
-depth_empty : (n d l : ℕ) → d ≤ cond (eqb n 0) 0 (l + 1) → n ≡ 0 → d ≡ 0
-depth_empty n d l h e = grind (arith, nat_tests)
-
-depth_open : (n d l : ℕ) → d ≤ cond (eqb n 0) 0 (l + 1) → d ≤ l + 1
-depth_open n d l h = grind (arith, nat_tests)
 
 -- the bytes of the header
 abbrev pub first_eight : List ℕ → List ℕ
@@ -120,7 +111,7 @@ two_read bytes at n u e = ap (big_endian 2) (sym e) ∙ number_read 2 (byte_at b
 -- The rules of a lawful receipt, from the bytes.
 module _ (bytes : List ℕ) (a : Accepted bytes) where
   level_first : (i : ℕ) → i < count_in bytes → i ≡ 0 → byte_at bytes (level_place i) ≡ 0
-  level_first i h e = first_keeps i (byte_at bytes (level_place (i - 1))) (byte_at bytes (level_place i)) (a.levels_keep i h) e
+  level_first i h e = let k = a.levels_keep i h in grind (arith, nat_tests)
 
   level_later : (i : ℕ) → i < count_in bytes → 0 < i
       → (1 ≤ byte_at bytes (level_place i)) × (byte_at bytes (level_place i) ≤ byte_at bytes (level_place (i - 1)) + 1) × (byte_at bytes (level_place i) < most_depth)
@@ -145,13 +136,13 @@ module _ (bytes : List ℕ) (a : Accepted bytes) where
             (omega arith, omega arith);
         shallow = λ i h. let x = level_shallow i (omega arith) in let u = at i (omega arith) in omega arith;
         named = λ i h. let x = label_keeps (byte_at bytes (label_place (count_in bytes) i)) (a.labels_keep i (omega arith)) in let u = told_label bytes (count_in bytes) i (omega arith) in (omega arith, omega arith);
-        empty_depth = λ e. depth_empty (count_in bytes) (depth_in bytes) (byte_at bytes (level_place (count_in bytes - 1))) a.depth_keeps (sym n ∙ e);
+        empty_depth = λ e. let d = a.depth_keeps in grind (arith, nat_tests);
         open_depth = λ i e.
             let z : i ≡ count_in bytes - 1 = omega arith in
             let q = ap (λ j. byte_at bytes (level_place j)) z in
             let u = at i (omega arith) in
-            let x = depth_open (count_in bytes) (depth_in bytes) (byte_at bytes (level_place (count_in bytes - 1))) a.depth_keeps in
-            omega arith;
+            let d = a.depth_keeps in
+            grind (arith, nat_tests);
       }
 
   header_read : AllBelowBase 256 (first_eight bytes) → header (depth_in bytes) (count_in bytes) ≡ first_eight bytes
@@ -159,10 +150,7 @@ module _ (bytes : List ℕ) (a : Accepted bytes) where
       let p = two_read bytes 2 (count_in bytes) (u.1.1.0, (u.1.1.1.0, tt)) refl in
       let q = two_read bytes 4 header_length (u.1.1.1.1.0, (u.1.1.1.1.1.0, tt)) a.levels_at in
       let s = two_read bytes 6 (header_length + count_in bytes) (u.1.1.1.1.1.1.0, (u.1.1.1.1.1.1.1.0, tt)) a.labels_at in
-      ap (λ zs. edition ∷ depth_in bytes ∷ (zs ++ (big_endian 2 header_length ++ big_endian 2 (header_length + count_in bytes)))) p
-      ∙ ap (λ zs. edition ∷ depth_in bytes ∷ byte_at bytes 2 ∷ byte_at bytes 3 ∷ (zs ++ big_endian 2 (header_length + count_in bytes))) q
-      ∙ ap (λ zs. edition ∷ depth_in bytes ∷ byte_at bytes 2 ∷ byte_at bytes 3 ∷ byte_at bytes 4 ∷ byte_at bytes 5 ∷ zs) s
-      ∙ ap (λ b. b ∷ depth_in bytes ∷ byte_at bytes 2 ∷ byte_at bytes 3 ∷ byte_at bytes 4 ∷ byte_at bytes 5 ∷ byte_at bytes 6 ∷ byte_at bytes 7 ∷ []) (sym a.edited)
+      cc
 
   same_byte : AllBelowBase 256 (first_eight bytes) → (at : ℕ) → at < length bytes → byte_at bytes at ≡ get_or (roll_of (receipt_in bytes)) at 0
   same_byte u at h =

@@ -53,10 +53,7 @@ nearest_no_nearer r v (suc k) p e j a b q = let ih = nearest_no_nearer r v k p i
 pub nearest_is : (r : Receipt) (v k p : ℕ) → p < k → level_at r p + 1 ≡ v → ((j : ℕ) → p < j → j < k → level_at r j + 1 ≡ v → ⊥) → nearest r.elements v k ≡ Some p
 unfolding nearest
 nearest_is r v zero p h q misses = absurd (omega arith)
-nearest_is r v (suc k) p h q misses = ⊎_elim
-    (λ (e : p ≡ k). grind (arith, nat_tests))
-    (λ ne. let ih = nearest_is r v k p (omega arith) q (λ j a b. misses j a (omega arith)) in let n = misses k (omega arith) (omega arith) in grind (arith, nat_tests))
-    (cases_eq p k)
+nearest_is r v (suc k) p h q misses = let ih = λ (b : p < k). nearest_is r v k p b q (λ j a c. misses j a (omega arith)) in let n = misses k in grind (arith, nat_tests)
 
 -- What stands between an element and its parent is no higher than the element.
 between_from : (r : Receipt) → Lawful r → (i p : ℕ) → i < count_of r → nearest r.elements (level_at r i) i ≡ Some p → (m k : ℕ) → k + m ≡ i → p < k → level_at r i ≤ level_at r k

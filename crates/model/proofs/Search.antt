@@ -18,10 +18,7 @@ last_none f (suc n) h = let ih = last_none f n (λ j b. h j (omega arith)) in le
 pub last_is : (f : ℕ → Bool) (n q : ℕ) → q < n → f q ≡ true → ((j : ℕ) → q < j → j < n → f j ≡ false) → last_where f n ≡ Some q
 unfolding last_where
 last_is f zero q h t misses = absurd (omega arith)
-last_is f (suc n) q h t misses = ⊎_elim
-    (λ (e : q ≡ n). let u : f n ≡ true = cc in rw u (ap Some (sym e)))
-    (λ ne. let u = misses n (omega arith) (omega arith) in rw u (last_is f n q (omega arith) t (λ j a b. misses j a (omega arith))))
-    (cases_eq q n)
+last_is f (suc n) q h t misses = let ih = λ (b : q < n). last_is f n q b t (λ j a c. misses j a (omega arith)) in let u = misses n in grind arith
 
 pub first_cong : (f g : ℕ → Bool) (n : ℕ) → ((j : ℕ) → j < n → f j ≡ g j) → first_where f n ≡ first_where g n
 unfolding first_where
@@ -76,11 +73,14 @@ same_parts None b e = absurd (false≢true e)
 same_parts (Some a) None e = absurd (false≢true e)
 same_parts (Some a) (Some b) e = (a, refl, ap Some (sym (eqb-true a b e)))
 
-pub same_is : (a : Option ℕ) (b : ℕ) → same_rank a (Some b) ≡ true → a ≡ Some b
-same_is a b e = let s = same_parts a (Some b) e in s.1 ∙ sym s.2
+pub same_is : (a b : Option ℕ) → same_rank a b ≡ true → a ≡ b
+same_is a b e = let s = same_parts a b e in s.1 ∙ sym s.2
 
 pub same_rank_lem : (a : Option ℕ) (b : ℕ) → a ≡ Some b → same_rank a (Some b) ≡ true
 same_rank_lem a b e = rw e (eq-eqb b b refl)
+
+pub same_rank_sym : (a b : Option ℕ) → same_rank a b ≡ true → same_rank b a ≡ true
+same_rank_sym a b e = let s = same_parts a b e in ap (same_rank b) s.1 ∙ same_rank_lem b s.0 s.2
 
 -- What a search found, and what it passed over.
 pub last_some : (f : ℕ → Bool) (n q : ℕ) → last_where f n ≡ Some q → (q < n) × (f q ≡ true) × ((j : ℕ) → q < j → j < n → f j ≡ false)

@@ -4,7 +4,7 @@ use Rattle.std.proofs.lemmas.Bool.{cases_lt, cases_Bool, lt-ltb, le-ltb, and_fro
 use Rattle.std.proofs.lemmas.Bool.Decides.{nat_tests}
 use Rattle.model.specs.Receipt.{Receipt, Lawful, count_of, level_at, nearest, parent_of, first_child_of, next_sibling_of, previous_sibling_of, same_rank}
 use Rattle.model.proofs.Relatives.{inside, parent_some, parent_none, between, nearest_no_nearer, nearest_is}
-use Rattle.model.proofs.Search.{first_none, last_is, last_none, apart_rank, same_rank_lem, same_parts}
+use Rattle.model.proofs.Search.{first_none, last_is, last_none, apart_rank, same_rank_lem, same_parts, same_rank_sym}
 use Rattle.model.proofs.Firsts.{first_is}
 
 module _ (r : Receipt) (w : Lawful r) where
@@ -49,9 +49,6 @@ module _ (r : Receipt) (w : Lawful r) where
   pub siblings : (i j : ℕ) → i < j → j < count_of r → level_at r i ≡ level_at r j → ((k : ℕ) → i < k → k < j → level_at r i ≤ level_at r k) → same_rank (parent_of r j) (parent_of r i) ≡ true
   siblings i j h b e over = sibling_by i j h b e over (parent_of r j) refl
 
-  flipped : (i j : ℕ) → same_rank (parent_of r i) (parent_of r j) ≡ true → same_rank (parent_of r j) (parent_of r i) ≡ true
-  flipped i j t = let s = same_parts (parent_of r i) (parent_of r j) t in ap (same_rank (parent_of r j)) s.1 ∙ same_rank_lem (parent_of r j) s.0 s.2
-
   -- The next sibling: the first later element that is no deeper, if it is no higher either.
   pub next_found : (i q : ℕ) → i < q → q < count_of r → ((j : ℕ) → i < j → j < q → level_at r i < level_at r j) → level_at r q ≡ level_at r i → next_sibling_of r i ≡ Some q
   next_found i q h b deeper e =
@@ -82,7 +79,7 @@ module _ (r : Receipt) (w : Lawful r) where
   pub previous_found : (i q : ℕ) → q < i → i < count_of r → ((j : ℕ) → q < j → j < i → level_at r i < level_at r j) → level_at r q ≡ level_at r i → previous_sibling_of r i ≡ Some q
   previous_found i q h b deeper e =
       inside r i _ b
-      ∙ last_is _ i q h (flipped i q (siblings q i h b e (λ k c d. let x = deeper k c d in omega arith)))
+      ∙ last_is _ i q h (same_rank_sym (parent_of r i) (parent_of r q) (siblings q i h b e (λ k c d. let x = deeper k c d in omega arith)))
       (λ j c d. false_from_ne_true _ (λ t. let x = deeper j c d in let y = (same_level i j t).0 in omega arith))
 
   pub previous_none : (i q : ℕ) → q < i → i < count_of r → ((j : ℕ) → q < j → j < i → level_at r i < level_at r j) → level_at r q < level_at r i → previous_sibling_of r i ≡ None
@@ -93,7 +90,7 @@ module _ (r : Receipt) (w : Lawful r) where
     where
       passed : (j : ℕ) → j < i → same_rank (parent_of r j) (parent_of r i) ≡ true → ⊥
       passed j d t =
-          let s = same_level j i (flipped j i t) in
+          let s = same_level j i (same_rank_sym (parent_of r j) (parent_of r i) t) in
           ⊎_elim
           (λ (c : q < j). let x = deeper j c d in omega arith)
           (λ (c : j ≤ q). let y = s.1 q in grind arith)

@@ -34,19 +34,13 @@ module _ (r : Receipt) (l : ℕ) where
   below_kept : (x y : ℕ) → y < count_of r → Below (opened r l) x y → Below r x y
   below_kept x y h b = (b.0, λ k a c. let t = b.1 k a c in let p = b.0 in let u = level_old r l x (omega arith) in let v = level_old r l k (omega arith) in omega arith)
 
-  -- The new element's ancestors are exactly the open elements.
+  -- The new element's ancestors are open.
   pub below_new_open : (x : ℕ) → x < count_of r → Below (opened r l) x (count_of r) → Opens r x
   below_new_open x h b =
       let u = level_old r l x h in
       let d = b.1 (count_of r) h (omega arith) in
       let v = level_new r l in
       (omega arith, λ k a c. let t = b.1 k a (omega arith) in let z = level_old r l k c in omega arith)
-
-  pub open_below_new : (x : ℕ) → x < count_of r → Opens r x → Below (opened r l) x (count_of r)
-  open_below_new x h o = (
-    h,
-    λ k a c. let u = level_old r l x h in let v = level_new r l in let z = level_old r l k in let d = o.0 in let e = o.1 k a in grind arith,
-  )
 
 module _ (r : Receipt) (l : ℕ) (w : Lawful r) (f : opening_fault l r ≡ None) where
   agree_opened : (x y : ℕ) → x < count_of r → y < count_of r → Agree r (opened r l) x y
