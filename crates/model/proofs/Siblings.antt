@@ -1,7 +1,6 @@
 -- First children and siblings by levels.
-use Rattle.std.proofs.Common.{◌≡◌, ℕ, ◌+◌, ◌-◌, ◌<◌, ◌≤◌, true, ltb, Some, None, Option, sym, refl, ap, ◌∙◌, ⊎_elim, arith}
-use Rattle.std.proofs.lemmas.Bool.{cases_lt, cases_Bool, lt-ltb, le-ltb, and_from, and_left, and_right, false_from_ne_true}
-use Rattle.std.proofs.lemmas.Bool.Decides.{nat_tests}
+use Rattle.std.proofs.Common.{◌≡◌, ℕ, ◌+◌, ◌-◌, ◌<◌, ◌≤◌, true, ltb, Some, None, Option, sym, refl, ap, ◌∙◌, arith}
+use Rattle.std.proofs.lemmas.Bool.{and_parts, ltb-true, lt-ltb, and_from, false_from_ne_true}
 use Rattle.model.specs.Receipt.{Receipt, Lawful, count_of, level_at, nearest, parent_of, first_child_of, next_sibling_of, previous_sibling_of, same_rank}
 use Rattle.model.proofs.Relatives.{inside, parent_some, parent_none, between, nearest_no_nearer, nearest_is}
 use Rattle.model.proofs.Search.{first_none, last_is, last_none, apart_rank, same_rank_lem, same_parts, same_rank_sym}
@@ -54,26 +53,16 @@ module _ (r : Receipt) (w : Lawful r) where
   next_found i q h b deeper e =
       inside r i _ (omega arith)
       ∙ first_is _ (count_of r) q b (and_from (ltb i q) _ (lt-ltb i q h) (siblings i q h b (sym e) (λ k c d. let x = deeper k c d in omega arith)))
-      (λ j c. ⊎_elim
-      (λ (t : same_rank (parent_of r j) (parent_of r i) ≡ true). let x = deeper j in let y = (same_level i j t).0 in and_left (ltb i j) _ (grind (arith, nat_tests)))
-      (λ t. and_right (ltb i j) _ t)
-      (cases_Bool (same_rank (parent_of r j) (parent_of r i))))
+      (λ j c. false_from_ne_true _ (λ t. let s = and_parts (ltb i j) _ t in let x = deeper j (ltb-true i j s.0) c in let y = (same_level i j s.1).0 in omega arith))
 
   pub next_none : (i q : ℕ) → i < q → i < count_of r → ((j : ℕ) → i < j → j < q → level_at r i < level_at r j) → (q < count_of r → level_at r q < level_at r i) → next_sibling_of r i ≡ None
   next_none i q before h deeper higher =
       inside r i _ h
       ∙ first_none _ (count_of r)
-      (λ j c. ⊎_elim
-      (λ (t : same_rank (parent_of r j) (parent_of r i) ≡ true). and_left (ltb i j) _
-      (le-ltb i j (⊎_elim (λ (m : i < j). absurd (passed j c m (same_level i j t))) (λ m. m) (cases_lt i j))))
-      (λ t. and_right (ltb i j) _ t)
-      (cases_Bool (same_rank (parent_of r j) (parent_of r i))))
+      (λ j c. false_from_ne_true _ (λ t. let s = and_parts (ltb i j) _ t in passed j c (ltb-true i j s.0) (same_level i j s.1)))
     where
       passed : (j : ℕ) → j < count_of r → i < j → (level_at r i ≡ level_at r j) × ((k : ℕ) → i < k → k < j → level_at r i ≤ level_at r k) → ⊥
-      passed j c m s = ⊎_elim
-          (λ (d : j < q). let x = deeper j m d in omega arith)
-          (λ (d : q ≤ j). let x = higher (omega arith) in let y = s.1 q before in grind arith)
-          (cases_lt j q)
+      passed j c m s = let x = deeper j m in let z = higher in let y = s.1 q before in grind arith
 
   -- The previous sibling: the last earlier element that is no deeper, if it is no higher either.
   pub previous_found : (i q : ℕ) → q < i → i < count_of r → ((j : ℕ) → q < j → j < i → level_at r i < level_at r j) → level_at r q ≡ level_at r i → previous_sibling_of r i ≡ Some q
@@ -91,10 +80,9 @@ module _ (r : Receipt) (w : Lawful r) where
       passed : (j : ℕ) → j < i → same_rank (parent_of r j) (parent_of r i) ≡ true → ⊥
       passed j d t =
           let s = same_level j i (same_rank_sym (parent_of r j) (parent_of r i) t) in
-          ⊎_elim
-          (λ (c : q < j). let x = deeper j c d in omega arith)
-          (λ (c : j ≤ q). let y = s.1 q in grind arith)
-          (cases_lt q j)
+          let x = deeper j in
+          let y = s.1 q in
+          grind arith
 
   pub first_alone : (i : ℕ) → i ≡ 0 → i < count_of r → previous_sibling_of r i ≡ None
   first_alone i z h = inside r i _ h ∙ last_none _ i (λ j b. absurd (omega arith))

@@ -1,5 +1,5 @@
 -- The descendants of x are the ranks after x, as many as its size; so the plane's tests tell what is below and what follows.
-use Rattle.std.proofs.Common.{◌≡◌, ℕ, zero, suc, ◌+◌, ◌-◌, ◌<◌, ◌≤◌, Bool, true, false, ◌⊎◌, Decides, ap, inl, inr, ⊎_elim, arith}
+use Rattle.std.proofs.Common.{◌≡◌, ℕ, zero, suc, ◌+◌, ◌-◌, ◌<◌, ◌≤◌, Bool, true, false, ◌⊎◌, Decides, inl, inr, ⊎_elim, arith}
 use Rattle.std.proofs.lemmas.Bool.{cases_lt, cases_Bool, cond-true, cond-false}
 use Rattle.std.proofs.lemmas.Bool.Decides.{Decides-and, Decides-like, Decides-ltb, not_from_Decides}
 use Rattle.model.specs.Receipt.{Receipt, Lawful, count_of, level_at}
@@ -35,13 +35,12 @@ block p x (suc n) after fills =
 module _ (r : Receipt) (w : Lawful r) where
   -- Levels rise by at most one per rank.
   pub level_rises : (x m : ℕ) → x + m < count_of r → level_at r (x + m) ≤ level_at r x + m
-  level_rises x zero h = let q : x + 0 ≡ x = omega arith in let e = ap (level_at r) q in omega arith
+  level_rises x zero h = grind arith
   level_rises x (suc m) h =
       let ih = level_rises x m (omega arith) in
       let s = (w.later (x + m) (omega arith)).1 in
       let q : x + suc m ≡ x + m + 1 = omega arith in
-      let e = ap (level_at r) q in
-      omega arith
+      grind arith
 
   pub level_from : (x y : ℕ) → x ≤ y → y < count_of r → level_at r y ≤ level_at r x + (y - x)
   level_from x y a h = let q : x + (y - x) ≡ y = omega arith in let s = level_rises x (y - x) (omega arith) in grind arith
@@ -97,7 +96,8 @@ module _ (r : Receipt) (w : Lawful r) where
   pub after_post : (x y : ℕ) → y < count_of r → x < y → (Below r x y → ⊥) → post r x < post r y
   unfolding post
   after_post x y h a nb =
-      let out : x + size r x < y = ⊎_elim (λ c. c) (λ c. absurd (nb (sized_below x y h a c))) (cases_lt (x + size r x) y) in
+      let s = λ (c : y ≤ x + size r x). nb (sized_below x y h a c) in
+      let out : x + size r x < y = omega arith in
       let flat : level_at r (x + size r x + 1) ≤ level_at r x = ⊎_elim
       (λ (c : level_at r x < level_at r (x + size r x + 1)).
       let b : Below r x (x + size r x + 1) = (

@@ -1,6 +1,6 @@
 -- Relations between present elements stay as a receipt goes on, and a new element is reached only where the axis may grow.
 use Rattle.std.proofs.Common.{◌≡◌, ℕ, ◌+◌, ◌-◌, ◌<◌, ◌≤◌, Bool, true, false, not, ◌&&◌, ◌||◌, ◌⊎◌, inl, inr, eqb, ltb, Some, None, Decides, Option, sym, refl, ap, ◌∙◌, ⊎_elim, arith}
-use Rattle.std.proofs.lemmas.Bool.Decides.{same_from_decides, nat_tests, Decides-and, Decides-or, Decides-eqb, Decides-ltb, Decides-like}
+use Rattle.std.proofs.lemmas.Bool.Decides.{same_from_decides, nat_tests, Decides-and, Decides-or, Decides-eqb, Decides-ltb, Decides-like, not_from_Decides}
 use Rattle.std.proofs.lemmas.Bool.{false_from_ne_true, cases_eq, both_ways, le-ltb, and_parts, and_left, and_right, and_cases, or_from, eqb-true, ne_eqb, not-false, false≢true}
 use Rattle.model.specs.declared.axis.Axis.{Axis}
 use Rattle.model.specs.declared.axis.Axis.TheVariants.{Itself, Child, Parent, Descendant, Ancestor, DescendantOrSelf, AncestorOrSelf, FollowingSibling, PrecedingSibling, Following, Preceding}
@@ -70,13 +70,13 @@ shut_opened : (r : Receipt) (l : ℕ) → Lawful r → opening_fault l r ≡ Non
 shut_opened r l w f x h e = false_from_ne_true _ (λ t.
     let m = count_more r l in
     let o = (open_is (opened r l) (opening_lawful r l w f) x (omega arith)).0 t in
-    both_ways _ e ((open_is r w x h).1 (below_new_open r l x h (h, λ k a b. o.1 k a (omega arith)))))
+    not_from_Decides _ (open_is r w x h) e (below_new_open r l x h (h, λ k a b. o.1 k a (omega arith))))
 
 shut_closed : (r : Receipt) → Lawful r → (x : ℕ) → x < count_of r → is_open r x ≡ false → is_open (closed r) x ≡ false
 shut_closed r w x h e = false_from_ne_true _ (λ t.
     let o = (open_is (closed r) (closing_lawful r w) x h).0 t in
     let d = o.0 in
-    both_ways _ e ((open_is r w x h).1 (omega arith, o.1)))
+    not_from_Decides _ (open_is r w x h) e (omega arith, o.1))
 
 -- An axis grows only through open elements no later than where it starts.
 grows_by : (r s : Receipt) (x : ℕ) → parent_of s x ≡ parent_of r x → ((y : ℕ) → y ≤ x → is_open r y ≡ false → is_open s y ≡ false) → (a : Axis) → grows r a x ≡ false → grows s a x ≡ false
@@ -172,7 +172,7 @@ module _ (r : Receipt) (l : ℕ) (w : Lawful r) (f : opening_fault l r ≡ None)
   fresh_counts = let m = count_more r l in omega arith
 
   not_below_new : is_open r x ≡ false → descends (opened r l) x (count_of r) ≡ false
-  not_below_new e = false_from_ne_true _ (λ t. both_ways _ e ((open_is r w x h).1 (below_new_open r l x h ((descends_is (opened r l) fresh_lawful x (count_of r) fresh_counts).0 t))))
+  not_below_new e = false_from_ne_true _ (λ t. not_from_Decides _ (open_is r w x h) e (below_new_open r l x h ((descends_is (opened r l) fresh_lawful x (count_of r) fresh_counts).0 t)))
 
   no_sibling_new : (o q : Option ℕ) → parent_of (opened r l) (count_of r) ≡ o → is_open_at r q ≡ false → same_rank o q ≡ false
   no_sibling_new None q u e = refl
