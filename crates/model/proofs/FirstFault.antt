@@ -1,5 +1,5 @@
 -- Which fault is the first that applies.
-use Rattle.std.proofs.Common.{◌≡◌, ℕ, ◌≤◌, Bool, true, false, cond, ltb, ◌⊎◌, List, Some, None, Option, refl, ◌∙◌, subst, inl, inr, ⊎_elim}
+use Rattle.std.proofs.Common.{◌≡◌, ℕ, ◌≤◌, Bool, true, false, cond, ltb, List, Some, None, Option, refl, ◌∙◌, subst}
 use Rattle.std.proofs.lemmas.Bool.{cond-true, cond-false, le-ltb, ltb-true}
 use Rattle.std.proofs.lemmas.Option.{none-some, same_Some}
 use Rattle.model.specs.declared.fault.RollFault.{RollFault}
@@ -9,14 +9,14 @@ use Rattle.model.specs.Reading.{depth_in, count_in, level_place, label_place, fo
 use Rattle.model.proofs.Search.{first_some}
 use Rattle.model.proofs.Firsts.{first_least}
 
--- which test a fault comes from
-from_test : (b : Bool) (x f : RollFault) (o : Option RollFault) → cond b (Some x) o ≡ Some f → ((b ≡ true) × (x ≡ f)) ⊎ (o ≡ Some f)
-from_test true x f o e = inl (refl, same_Some x f e)
-from_test false x f o e = inr e
+-- What holds of the fault of each test holds of the fault that comes out.
+by_test : (P : RollFault → Type 0) (b : Bool) (x : RollFault) (o : Option RollFault) → (b ≡ true → P x) → ((f : RollFault) → o ≡ Some f → P f) → (f : RollFault) → cond b (Some x) o ≡ Some f → P f
+by_test P true x o here past f e = subst P (same_Some x f e) (here refl)
+by_test P false x o here past f e = past f e
 
-from_search : (g : ℕ → RollFault) (f : RollFault) (o : Option ℕ) (next : Option RollFault) → fault_at g o next ≡ Some f → ((i : ℕ) × (o ≡ Some i) × (g i ≡ f)) ⊎ (next ≡ Some f)
-from_search g f None next e = inr e
-from_search g f (Some i) next e = inl (i, refl, same_Some (g i) f e)
+by_search : (P : RollFault → Type 0) (g : ℕ → RollFault) (o : Option ℕ) (next : Option RollFault) → ((i : ℕ) → o ≡ Some i → P (g i)) → ((f : RollFault) → next ≡ Some f → P f) → (f : RollFault) → fault_at g o next ≡ Some f → P f
+by_search P g None next here past f e = past f e
+by_search P g (Some i) next here past f e = subst P (same_Some (g i) f e) (here i refl)
 
 module _ (bytes : List ℕ) where
   pub no_roll : foreign bytes ≡ true → reading_fault bytes ≡ Some NoRoll
@@ -33,35 +33,15 @@ module _ (bytes : List ℕ) where
   unfolding reading_fault
   no_fault a b c d h = simp (a, b, c, d, le-ltb (greatest_depth bytes (count_in bytes)) (depth_in bytes) h)
 
-  -- what is left to look at, one test after another
-  abbrev on_depth : Option RollFault
-  on_depth = cond (ltb (greatest_depth bytes (count_in bytes)) (depth_in bytes)) (Some BadDepth) None
-
-  abbrev on_labels : Option RollFault
-  on_labels = fault_at (λ i. BadLabel (label_place (count_in bytes) i)) (first_where (label_breaks bytes (count_in bytes)) (count_in bytes)) on_depth
-
-  abbrev on_levels : Option RollFault
-  on_levels = fault_at (λ i. BadLevel (level_place i)) (first_where (level_breaks bytes) (count_in bytes)) on_labels
-
   first_break : (breaks : ℕ → Bool) (place_of : ℕ → ℕ) (n i : ℕ) → first_where breaks n ≡ Some i → FirstBreak breaks place_of n (place_of i)
   first_break breaks place_of n i e = let s = first_some breaks n i e in record { rank = i; place = refl; within = s.0; broken = s.1; before = first_least breaks n i e }
 
   -- A fault says what it should.
   pub fault_applies : (f : RollFault) → reading_fault bytes ≡ Some f → Applies bytes f
   unfolding reading_fault
-  fault_applies f e = ⊎_elim
-      (λ s. subst (Applies bytes) s.1 s.0)
-      (λ past. ⊎_elim
-      (λ s. subst (Applies bytes) s.1 s.0)
-      (λ past. ⊎_elim
-      (λ s. subst (Applies bytes) s.2 (first_break (level_breaks bytes) level_place (count_in bytes) s.0 s.1))
-      (λ past. ⊎_elim
-      (λ s. subst (Applies bytes) s.2 (first_break (label_breaks bytes (count_in bytes)) (label_place (count_in bytes)) (count_in bytes) s.0 s.1))
-      (λ past. ⊎_elim
-      (λ s. subst (Applies bytes) s.1 (ltb-true (greatest_depth bytes (count_in bytes)) (depth_in bytes) s.0))
-      (λ none. absurd (none-some f none))
-      (from_test (ltb (greatest_depth bytes (count_in bytes)) (depth_in bytes)) BadDepth f None past))
-      (from_search _ f (first_where (label_breaks bytes (count_in bytes)) (count_in bytes)) on_depth past))
-      (from_search _ f (first_where (level_breaks bytes) (count_in bytes)) on_labels past))
-      (from_test (misplaced bytes) BadLayout f on_levels past))
-      (from_test (foreign bytes) NoRoll f (cond (misplaced bytes) (Some BadLayout) on_levels) e)
+  fault_applies =
+      by_test (Applies bytes) (foreign bytes) NoRoll _ (λ t. t)
+      (by_test (Applies bytes) (misplaced bytes) BadLayout _ (λ t. t)
+      (by_search (Applies bytes) (λ i. BadLevel (level_place i)) (first_where (level_breaks bytes) (count_in bytes)) _ (first_break (level_breaks bytes) level_place (count_in bytes))
+      (by_search (Applies bytes) (λ i. BadLabel (label_place (count_in bytes) i)) (first_where (label_breaks bytes (count_in bytes)) (count_in bytes)) _ (first_break (label_breaks bytes (count_in bytes)) (label_place (count_in bytes)) (count_in bytes))
+      (by_test (Applies bytes) (ltb (greatest_depth bytes (count_in bytes)) (depth_in bytes)) BadDepth None (ltb-true (greatest_depth bytes (count_in bytes)) (depth_in bytes)) (λ f none. absurd (none-some f none))))))

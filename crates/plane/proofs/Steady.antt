@@ -10,6 +10,7 @@ use Rattle.model.specs.Axes.{leads, inverse, is_backward, grows}
 use Rattle.model.specs.Runs.{opening_fault, closing_fault}
 use Rattle.model.proofs.Opening.{level_old, level_new, parent_old, count_more}
 use Rattle.model.proofs.Relatives.{parent_some}
+use Rattle.model.proofs.Search.{same_parts}
 use Rattle.plane.proofs.Below.{Below, parent_below, ancestor_is}
 use Rattle.plane.proofs.Block.{descends_is, follows_is, first_above, level_later}
 use Rattle.model.proofs.Lawfully.{openable, opening_lawful, closing_lawful}
@@ -174,13 +175,11 @@ module _ (r : Receipt) (l : ℕ) (w : Lawful r) (f : opening_fault l r ≡ None)
   not_below_new : is_open r x ≡ false → descends (opened r l) x (count_of r) ≡ false
   not_below_new e = false_from_ne_true _ (λ t. not_from_Decides _ (open_is r w x h) e (below_new_open r l x h ((descends_is (opened r l) fresh_lawful x (count_of r) fresh_counts).0 t)))
 
-  no_sibling_new : (o q : Option ℕ) → parent_of (opened r l) (count_of r) ≡ o → is_open_at r q ≡ false → same_rank o q ≡ false
-  no_sibling_new None q u e = refl
-  no_sibling_new (Some p) None u e = refl
-  no_sibling_new (Some p) (Some y) u e = ne_eqb p y (λ (m : p ≡ y).
-      let s = parent_some (opened r l) (count_of r) p u in
-      let o = (open_is r w p s.1).1 (below_new_open r l p s.1 (parent_below (opened r l) fresh_lawful (count_of r) p u)) in
-      both_ways _ e (ap (is_open r) (sym m) ∙ o))
+  no_sibling_new : (q : Option ℕ) → is_open_at r q ≡ false → same_rank (parent_of (opened r l) (count_of r)) q ≡ false
+  no_sibling_new q e = false_from_ne_true _ (λ t.
+      let m = same_parts (parent_of (opened r l) (count_of r)) q t in
+      let s = parent_some (opened r l) (count_of r) m.0 m.1 in
+      not_from_Decides _ (open_is r w m.0 s.1) (sym (ap (is_open_at r) m.2) ∙ e) (below_new_open r l m.0 s.1 (parent_below (opened r l) fresh_lawful (count_of r) m.0 m.1)))
 
   -- Before the end the first element is open, and all others are below it.
   first_open : is_open r 0 ≡ true
@@ -208,7 +207,7 @@ module _ (r : Receipt) (l : ℕ) (w : Lawful r) (f : opening_fault l r ≡ None)
   leads_new AncestorOrSelf e = or_from (eqb x (count_of r)) _ apart (none_after _)
   leads_new FollowingSibling e =
       and_left (same_rank (parent_of (opened r l) (count_of r)) (parent_of (opened r l) x)) _
-      (no_sibling_new (parent_of (opened r l) (count_of r)) (parent_of (opened r l) x) refl (ap (is_open_at r) (parent_old r l x h) ∙ e))
+      (no_sibling_new (parent_of (opened r l) x) (ap (is_open_at r) (parent_old r l x h) ∙ e))
   leads_new PrecedingSibling e = and_right (same_rank (parent_of (opened r l) x) (parent_of (opened r l) (count_of r))) _ (le-ltb (count_of r) x (omega arith))
   leads_new Following e = not_after_new e
   leads_new Preceding e = none_after _
