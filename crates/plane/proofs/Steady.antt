@@ -1,7 +1,7 @@
 -- Relations between present elements stay as a receipt goes on, and a new element is reached only where the axis may grow.
 use Rattle.std.proofs.Common.{◌≡◌, ℕ, ◌+◌, ◌-◌, ◌<◌, ◌≤◌, Bool, true, false, not, ◌&&◌, ◌||◌, ◌⊎◌, inl, inr, eqb, ltb, Some, None, Decides, Option, sym, refl, ap, ◌∙◌, ⊎_elim, arith}
 use Rattle.std.proofs.lemmas.Bool.Decides.{same_from_decides, nat_tests, Decides-and, Decides-or, Decides-eqb, Decides-ltb, Decides-like, not_from_Decides}
-use Rattle.std.proofs.lemmas.Bool.{false_from_ne_true, cases_eq, both_ways, le-ltb, and_parts, and_left, and_right, and_cases, or_from, eqb-true, ne_eqb, not-false, false≢true}
+use Rattle.std.proofs.lemmas.Bool.{false_from_ne_true, cases_eq, le-ltb, and_parts, and_left, and_right, or_from, eqb-true, ne_eqb, false≢true}
 use Rattle.model.specs.declared.axis.Axis.{Axis}
 use Rattle.model.specs.declared.axis.Axis.TheVariants.{Itself, Child, Parent, Descendant, Ancestor, DescendantOrSelf, AncestorOrSelf, FollowingSibling, PrecedingSibling, Following, Preceding}
 use Rattle.model.specs.Receipt.{Receipt, Lawful, count_of, level_at, parent_of, same_rank, has_ended, opened, closed}
@@ -95,7 +95,7 @@ grows_by r s x p shut FollowingSibling e = ap (is_open_at s) p ∙ parent_shut (
     parent_shut None q e = refl
     parent_shut (Some y) q e = let b = parent_some r x y q in shut y (omega arith) e
 grows_by r s x p shut PrecedingSibling e = refl
-grows_by r s x p shut Following e = ⊎_elim (λ q. and_left (not (eqb x 0)) _ q) (λ q. and_right (not (eqb x 0)) _ (shut 0 (omega arith) q)) (and_cases (not (eqb x 0)) (is_open r 0) e)
+grows_by r s x p shut Following e = let o = shut 0 (omega arith) in grind (arith, nat_tests)
 grows_by r s x p shut Preceding e = refl
 
 pub grows_opened : (r : Receipt) (l : ℕ) → Lawful r → opening_fault l r ≡ None → (a : Axis) (x : ℕ) → x < count_of r → grows r a x ≡ false → grows (opened r l) a x ≡ false
@@ -190,11 +190,10 @@ module _ (r : Receipt) (l : ℕ) (w : Lawful r) (f : opening_fault l r ≡ None)
       (open_is r w 0 (omega arith)).1 (omega arith, λ k a b. let v = level_later r w k a b in omega arith)
 
   not_after_new : (not (eqb x 0) && is_open r 0) ≡ false → follows (opened r l) x (count_of r) ≡ false
-  not_after_new e = ⊎_elim
-      (λ q. let z : x ≡ 0 = eqb-true x 0 (not-false (eqb x 0) q) in
-      false_from_ne_true _ (λ t. ((follows_is (opened r l) fresh_lawful x (count_of r) fresh_counts).0 t).1 (rw z (first_above (opened r l) fresh_lawful (count_of r) (omega arith) fresh_counts))))
-      (λ q. absurd (both_ways _ q first_open))
-      (and_cases (not (eqb x 0)) (is_open r 0) e)
+  not_after_new e = false_from_ne_true _ (λ t.
+      let o = first_open in
+      let z : x ≡ 0 = grind (arith, nat_tests) in
+      ((follows_is (opened r l) fresh_lawful x (count_of r) fresh_counts).0 t).1 (rw z (first_above (opened r l) fresh_lawful (count_of r) (omega arith) fresh_counts)))
 
   pub leads_new : (a : Axis) → grows r a x ≡ false → leads (opened r l) a x (count_of r) ≡ false
   unfolding leads grows
