@@ -34,10 +34,25 @@ module _ (r : Receipt) (w : Lawful r) where
       (⊎_elim (λ (q : p < x). let t = between r w y p x e q b.0 in absurd (omega arith)) (λ (q : x < p). inr (below_less r x p y q (omega arith) b)))
       (cases_order p x)
 
+  no_root_below : (x y : ℕ) → y < count_of r → parent_of r y ≡ None → Below r x y → ⊥
+  no_root_below x y h e b = let z = parent_none r w y h e in let o = b.1 y b.0 (omega arith) in omega arith
+
+  -- What holds of the children of x, and of an element if it holds of its parent, holds of all below x.
+  below_from : (x : ℕ) (P : ℕ → Type 0) → ((y : ℕ) → parent_of r y ≡ Some x → P y) → ((y p : ℕ) → parent_of r y ≡ Some p → P p → P y)
+      → (n y : ℕ) (o : Option ℕ) → parent_of r y ≡ o → y ≤ n → y < count_of r → Below r x y → P y
+  below_from x P child up n y None e f h b = absurd (no_root_below x y h e b)
+  below_from x P child up zero y (Some p) e f h b = let z = b.0 in absurd (omega arith)
+  below_from x P child up (suc n) y (Some p) e f h b =
+      let s = parent_some r y p e in
+      ⊎_elim (λ (q : p ≡ x). child y (e ∙ ap Some q)) (λ c. up y p e (below_from x P child up n p (parent_of r p) refl (omega arith) (omega arith) c)) (parent_or_above x y p b e)
+
+  pub below_by : (x : ℕ) (P : ℕ → Type 0) → ((y : ℕ) → parent_of r y ≡ Some x → P y) → ((y p : ℕ) → parent_of r y ≡ Some p → P p → P y) → (y : ℕ) → y < count_of r → Below r x y → P y
+  below_by x P child up y h b = below_from x P child up y y (parent_of r y) refl (omega arith) h b
+
   among_is : (n x y : ℕ) (o : Option ℕ) → parent_of r y ≡ o → y < count_of r → level_at r y ≤ n → Decides (is_among n r x o) (Below r x y)
   unfolding is_among
   among_is zero x y o e h f = (λ t. absurd (false≢true t), λ b. let o = b.1 y b.0 (omega arith) in absurd (omega arith))
-  among_is (suc n) x y None e h f = (λ t. absurd (false≢true t), λ b. let z = parent_none r w y h e in let o = b.1 y b.0 (omega arith) in absurd (omega arith))
+  among_is (suc n) x y None e h f = (λ t. absurd (false≢true t), λ b. absurd (no_root_below x y h e b))
   among_is (suc n) x y (Some p) e h f =
       let s = parent_some r y p e in
       Decides-like _

@@ -7,7 +7,7 @@ use Rattle.model.specs.Plane.{descends, follows, is_child, is_later_sibling}
 use Rattle.model.proofs.Search.{same_parts}
 use Rattle.model.proofs.Relatives.{inside, parent_some, parent_none, nearest_is}
 use Rattle.plane.specs.Tree.{Ancestor, one, up, AncestorOrSelf, TreeFollows, PlaneIsTree}
-use Rattle.plane.proofs.Below.{Below, below_trans, below_less, parent_below, parent_or_above}
+use Rattle.plane.proofs.Below.{Below, below_by, below_trans, below_less, parent_below}
 use Rattle.plane.proofs.Block.{descends_is, follows_is, level_later}
 
 up_all : (r : Receipt) (u x y : ℕ) → AncestorOrSelf r u x → parent_of r y ≡ Some x → AncestorOrSelf r u y
@@ -19,15 +19,8 @@ module _ (r : Receipt) (w : Lawful r) where
   tree_below x {y} (one e) = parent_below r w y x e
   tree_below x {y} (up {p = p} e a) = below_trans r x p y (tree_below x a) (parent_below r w y p e)
 
-  below_tree : (n x y : ℕ) (o : Option ℕ) → parent_of r y ≡ o → y ≤ n → y < count_of r → Below r x y → Ancestor r x y
-  below_tree n x y None e f h b = let z = parent_none r w y h e in let v = b.1 y b.0 (omega arith) in absurd (omega arith)
-  below_tree zero x y (Some p) e f h b = let z = b.0 in absurd (omega arith)
-  below_tree (suc n) x y (Some p) e f h b =
-      let s = parent_some r y p e in
-      ⊎_elim (λ (q : p ≡ x). one (e ∙ ap Some q)) (λ c. up e (below_tree n x p (parent_of r p) refl (omega arith) (omega arith) c)) (parent_or_above r w x y p b e)
-
   pub descends_tree : (x y : ℕ) → y < count_of r → Decides (descends r x y) (Ancestor r x y)
-  descends_tree x y h = Decides-like (descends r x y) (λ b. below_tree y x y (parent_of r y) refl (omega arith) h b) (λ a. tree_below x a) (descends_is r w x y h)
+  descends_tree x y h = Decides-like (descends r x y) (λ b. below_by r w x (Ancestor r x) (λ z e. one e) (λ z p e a. up e a) y h b) (λ a. tree_below x a) (descends_is r w x y h)
 
   pub child_tree : (x y : ℕ) → y < count_of r → Decides (is_child r x y) (parent_of r y ≡ Some x)
   child_tree x y h = Decides-like (is_child r x y)
@@ -36,14 +29,8 @@ module _ (r : Receipt) (w : Lawful r) where
       (Decides-and _ _ (descends_is r w x y h) (Decides-eqb (level_at r y) (level_at r x + 1)))
 
   -- From x up to the child of p on the way.
-  toward : (n x p : ℕ) (o : Option ℕ) → parent_of r x ≡ o → x ≤ n → x < count_of r → Below r p x → (u : ℕ) × (parent_of r u ≡ Some p) × (AncestorOrSelf r u x)
-  toward n x p None e f h b = let z = parent_none r w x h e in let v = b.1 x b.0 (omega arith) in absurd (omega arith)
-  toward zero x p (Some q) e f h b = let z = b.0 in absurd (omega arith)
-  toward (suc n) x p (Some q) e f h b =
-      let s = parent_some r x q e in
-      ⊎_elim (λ (c : q ≡ p). (x, e ∙ ap Some c, inl refl))
-      (λ c. let t = toward n q p (parent_of r q) refl (omega arith) (omega arith) c in (t.0, t.1, up_all r t.0 q x t.2 e))
-      (parent_or_above r w p x q b e)
+  toward : (p x : ℕ) → x < count_of r → Below r p x → (u : ℕ) × (parent_of r u ≡ Some p) × (AncestorOrSelf r u x)
+  toward p x h b = below_by r w p (λ z. (u : ℕ) × (parent_of r u ≡ Some p) × (AncestorOrSelf r u z)) (λ z e. (z, e, inl refl)) (λ z q e t. (t.0, t.1, up_all r t.0 q z t.2 e)) x h b
 
   or_self_lem : (u x : ℕ) → AncestorOrSelf r u x → (u ≡ x) ⊎ Below r u x
   or_self_lem u x (inl q) = inl q
@@ -64,7 +51,7 @@ module _ (r : Receipt) (w : Lawful r) where
       ⊎_elim (λ (q : p ≡ x). absurd (nb (parent_below r w y x (e ∙ ap Some q))))
       (⊎_elim
       (λ (q : p < x).
-      let t = toward x x p (parent_of r x) refl (omega arith) (omega arith) (below_less r p x y q (omega arith) b) in
+      let t = toward p x (omega arith) (below_less r p x y q (omega arith) b) in
       (t.0, y, t.2, sibling t.0 y p t.1 e (let z = no_later t.0 x t.2 in omega arith), inl refl))
       (λ (q : x < p).
       let t = follows_by n x p (parent_of r p) refl (omega arith) (omega arith) q (λ c. nb (below_trans r x p y c b)) in
