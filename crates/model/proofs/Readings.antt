@@ -59,8 +59,8 @@ accepted bytes e =
     let c = nowhere _ (first_where (level_breaks bytes) (count_in bytes)) _ b.1 in
     let d = nowhere _ (first_where (label_breaks bytes (count_in bytes)) (count_in bytes)) _ c.1 in
     let f = neither _ BadDepth None d.1 in
-    let foreign_not = a.0 in
-    let misplaced_not = b.0 in
+    let head = a.0 in
+    let layout = b.0 in
     record {
       long = grind (arith, nat_tests);
       edited = grind (arith, nat_tests);
@@ -73,15 +73,16 @@ accepted bytes e =
       depth_keeps = ltb-false (greatest_depth bytes (count_in bytes)) (depth_in bytes) f.0;
     }
 
-own : (bytes : List ℕ) → Accepted bytes → foreign bytes ≡ false
-own bytes a = grind (arith, nat_tests, a.long, a.edited)
+-- Accepted bytes are of this edition, and nothing in them is misplaced.
+not_foreign : (bytes : List ℕ) → Accepted bytes → foreign bytes ≡ false
+not_foreign bytes a = grind (arith, nat_tests, a.long, a.edited)
 
-placed : (bytes : List ℕ) → Accepted bytes → misplaced bytes ≡ false
-placed bytes a = grind (arith, nat_tests, a.few, a.levels_at, a.labels_at, a.whole)
+not_misplaced : (bytes : List ℕ) → Accepted bytes → misplaced bytes ≡ false
+not_misplaced bytes a = grind (arith, nat_tests, a.few, a.levels_at, a.labels_at, a.whole)
 
 pub accepted_is : (bytes : List ℕ) → Accepted bytes → reading_fault bytes ≡ None
 accepted_is bytes a =
-    no_fault bytes (own bytes a) (placed bytes a) (first_none (level_breaks bytes) (count_in bytes) a.levels_keep) (first_none (label_breaks bytes (count_in bytes)) (count_in bytes) a.labels_keep) a.depth_keeps
+    no_fault bytes (not_foreign bytes a) (not_misplaced bytes a) (first_none (level_breaks bytes) (count_in bytes) a.levels_keep) (first_none (label_breaks bytes (count_in bytes)) (count_in bytes) a.labels_keep) a.depth_keeps
 
 -- What the tests of a later level and of a label say where they are false.
 later_keeps : (i u v : ℕ) → wrong_level i u v ≡ false → 0 < i → (1 ≤ v) × (v ≤ u + 1) × (v < most_depth)
