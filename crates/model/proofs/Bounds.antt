@@ -1,16 +1,14 @@
 -- Where an element's relatives stand.
-use Rattle.std.proofs.Common.{◌≡◌, ℕ, ◌<◌, ltb, IfSome, Some, None, Option, sym, ◌∙◌, ⊎_elim, arith}
-use Rattle.std.proofs.lemmas.Bool.{cases_lt, ltb-true, le-ltb, and_parts, cond-false}
+use Rattle.std.proofs.Common.{◌≡◌, ℕ, ◌<◌, ltb, IfSome, Some, None, Option, sym, arith}
+use Rattle.std.proofs.lemmas.Bool.{ltb-true, and_parts}
+use Rattle.std.proofs.lemmas.Bool.Decides.{nat_tests}
 use Rattle.model.specs.Receipt.{Receipt, within, count_of, parent_of, first_child_of, next_sibling_of, previous_sibling_of}
-use Rattle.model.proofs.Relatives.{inside, parent_some}
+use Rattle.model.proofs.Relatives.{parent_some}
 use Rattle.model.proofs.Search.{last_some, first_some, same_is}
 
 -- An answer at a rank is one at an element.
 pub within_some : (r : Receipt) (i q : ℕ) (o : Option ℕ) → within r i o ≡ Some q → (i < count_of r) × (o ≡ Some q)
-within_some r i q o e = ⊎_elim
-    (λ h. (h, sym (inside r i o h) ∙ e))
-    (λ h. let z : None ≡ Some q = sym (cond-false (ltb i (count_of r)) o None (le-ltb i (count_of r) h)) ∙ e in let f : ◌≡◌ {A = ℕ} 0 1 = cc in absurd (omega arith))
-    (cases_lt i (count_of r))
+within_some r i q o e = grind (arith, nat_tests)
 
 pub parent_bound : (r : Receipt) (i : ℕ) (o : Option ℕ) → o ≡ parent_of r i → IfSome o (λ p. (p < i) × (i < count_of r))
 parent_bound r i None e = tt
@@ -21,7 +19,7 @@ child_bound r i None e = tt
 child_bound r i (Some c) e =
     let w = within_some r i c _ (sym e) in
     let s = first_some _ (count_of r) c w.1 in
-    let p = parent_some r c i (same_is (parent_of r c) i s.1) in
+    let p = parent_some r c i (same_is (parent_of r c) (Some i) s.1) in
     (p.1, s.0)
 
 pub next_bound : (r : Receipt) (i : ℕ) (o : Option ℕ) → o ≡ next_sibling_of r i → IfSome o (λ s. (i < s) × (s < count_of r))

@@ -12,8 +12,7 @@ unfolding listed
 listed_through g none parts f h zero each = none
 listed_through g none parts f h (suc n) each =
     let ih = listed_through g none parts f h n (λ k b. each k (omega arith)) in
-    let e = each n (omega arith) in
-    parts (listed f n) (if_any (f n)) ∙ ap (λ xs. xs ++ g (if_any (f n))) ih ∙ ap (λ xs. listed h n ++ xs) e
+    rw (parts (listed f n) (if_any (f n)), ih, each n (omega arith))
 
 pub listed_all : {A : Type 0} (P : A → Type 0) (f : ℕ → Option A) (n : ℕ) → ((k : ℕ) → k < n → All P (if_any (f k))) → All P (listed f n)
 unfolding listed

@@ -1,33 +1,36 @@
 -- What an opening does to the relatives of each element.
 use Rattle.std.proofs.Common.{◌≡◌, ℕ, zero, suc, ◌+◌, ◌<◌, ◌≤◌, Bool, true, false, ◌&&◌, ltb, [], ◌∷◌, get_or, Some, None, Option, sym, refl, ap, ◌∙◌, ⊎_elim, add-one, arith, length-append}
-use Rattle.std.proofs.lemmas.Bool.{cases_eq, cases_lt, eq-eqb, cases_Bool, lt-ltb, le-ltb, and_left, and_right, and_from, both_ways}
+use Rattle.std.proofs.lemmas.Bool.{cases_lt, cases_Bool, lt-ltb, le-ltb, and_left, and_right, and_from, both_ways}
 use Rattle.std.proofs.lemmas.List.{get_or_append_left, get_or_push}
 use Rattle.model.specs.Receipt.{Element, Receipt, Lawful, absent, count_of, level_at, label_at, nearest, parent_of, first_child_of, next_sibling_of, previous_sibling_of, first_where, same_rank, innermost, last_inside, opened}
 use Rattle.model.specs.Limits.{most_elements, most_label, most_depth}
 use Rattle.model.proofs.Relatives.{inside, parent_some}
-use Rattle.model.proofs.Search.{last_cong, last_some, last_none_all, first_cong, first_none, first_more, first_new, first_same, apart_rank, same_rank_lem, same_parts}
+use Rattle.model.proofs.Search.{last_cong, last_some, last_none_all, first_cong, first_none, first_more, first_new, first_same, apart_rank, same_rank_lem, same_is, same_rank_sym}
 
 abbrev fresh : Receipt → ℕ → Element
 fresh r l = record { label = l; level = r.depth }
-
-same_from : (a b : Option ℕ) (x : ℕ) → a ≡ Some x → b ≡ Some x → same_rank a b ≡ true
-same_from a b x p q = rw (p, q) (eq-eqb x x refl)
 
 module _ (r : Receipt) (l : ℕ) where
   pub count_more : count_of (opened r l) ≡ count_of r + 1
   count_more = length-append r.elements (fresh r l ∷ [])
 
-  pub level_old : (k : ℕ) → k < count_of r → level_at (opened r l) k ≡ level_at r k
-  level_old k h = ap (λ (e : Element). e.level) (get_or_append_left r.elements (fresh r l ∷ []) absent k h)
-
   pub element_old : (k : ℕ) → k < count_of r → get_or (opened r l).elements k absent ≡ get_or r.elements k absent
   element_old k h = get_or_append_left r.elements (fresh r l ∷ []) absent k h
 
+  element_new : get_or (opened r l).elements (count_of r) absent ≡ fresh r l
+  element_new = get_or_push r.elements (fresh r l) absent (count_of r) refl
+
+  pub level_old : (k : ℕ) → k < count_of r → level_at (opened r l) k ≡ level_at r k
+  level_old k h = ap (λ (e : Element). e.level) (element_old k h)
+
+  pub label_old : (k : ℕ) → k < count_of r → label_at (opened r l) k ≡ label_at r k
+  label_old k h = ap (λ (e : Element). e.label) (element_old k h)
+
   pub level_new : level_at (opened r l) (count_of r) ≡ r.depth
-  level_new = ap (λ (e : Element). e.level) (get_or_push r.elements (fresh r l) absent (count_of r) refl)
+  level_new = ap (λ (e : Element). e.level) element_new
 
   label_new : label_at (opened r l) (count_of r) ≡ l
-  label_new = ap (λ (e : Element). e.label) (get_or_push r.elements (fresh r l) absent (count_of r) refl)
+  label_new = ap (λ (e : Element). e.label) element_new
 
   nearest_old : (v k : ℕ) → k ≤ count_of r → nearest (opened r l).elements v k ≡ nearest r.elements v k
   unfolding nearest
@@ -39,19 +42,18 @@ module _ (r : Receipt) (l : ℕ) where
       let m = count_more in
       let a = inside (opened r l) j (nearest (opened r l).elements (level_at (opened r l) j) j) (omega arith) in
       let b = inside r j (nearest r.elements (level_at r j) j) h in
-      let c = nearest_old (level_at (opened r l) j) j (omega arith) in
-      let d = ap (λ v. nearest r.elements v j) (level_old j h) in
-      a ∙ c ∙ d ∙ sym b
+      let c = nearest_old (level_at r j) j (omega arith) in
+      let d = level_old j h in
+      cc
 
   pub parent_new : parent_of (opened r l) (count_of r) ≡ innermost r
   parent_new =
       let m = count_more in
-      let a = inside (opened r l) (count_of r) (nearest (opened r l).elements (level_at (opened r l) (count_of r)) (count_of r)) (omega arith) in
-      let c = nearest_old (level_at (opened r l) (count_of r)) (count_of r) (omega arith) in
-      a ∙ c ∙ ap (λ v. nearest r.elements v (count_of r)) level_new
+      let c = nearest_old r.depth (count_of r) (omega arith) in
+      inside (opened r l) (count_of r) _ (omega arith) ∙ rw level_new c
 
   same_old : (j i : ℕ) → j < count_of r → i < count_of r → same_rank (parent_of (opened r l) j) (parent_of (opened r l) i) ≡ same_rank (parent_of r j) (parent_of r i)
-  same_old j i h k = let a = parent_old j h in let b = parent_old i k in ap (λ x. same_rank x (parent_of (opened r l) i)) a ∙ ap (same_rank (parent_of r j)) b
+  same_old j i h k = let a = parent_old j h in let b = parent_old i k in cc
 
   pub prev_old : (i : ℕ) → i < count_of r → previous_sibling_of (opened r l) i ≡ previous_sibling_of r i
   prev_old i h =
@@ -62,7 +64,7 @@ module _ (r : Receipt) (l : ℕ) where
   prev_new =
       let m = count_more in
       inside (opened r l) (count_of r) _ (omega arith)
-      ∙ last_cong _ (λ j. same_rank (parent_of r j) (innermost r)) (count_of r) (λ j b. ap (λ x. same_rank x (parent_of (opened r l) (count_of r))) (parent_old j b) ∙ ap (same_rank (parent_of r j)) parent_new)
+      ∙ last_cong _ (λ j. same_rank (parent_of r j) (innermost r)) (count_of r) (λ j b. let a = parent_old j b in let c = parent_new in cc)
 
   -- The tests of `first_child_of` and `next_sibling_of`.
   abbrev child' : ℕ → ℕ → Bool
@@ -87,9 +89,7 @@ module _ (r : Receipt) (l : ℕ) where
   later_old i j h k = ap (λ b. ltb i j && b) (same_old j i k h)
 
   later_new : (i : ℕ) → i < count_of r → later' i (count_of r) ≡ same_rank (innermost r) (parent_of r i)
-  later_new i h =
-      let e = ap (λ x. same_rank x (parent_of (opened r l) i)) parent_new ∙ ap (same_rank (innermost r)) (parent_old i h) in
-      ap (λ b. b && same_rank (parent_of (opened r l) (count_of r)) (parent_of (opened r l) i)) (lt-ltb i (count_of r) h) ∙ e
+  later_new i h = ap (λ b. b && same_rank (parent_of (opened r l) (count_of r)) (parent_of (opened r l) i)) (lt-ltb i (count_of r) h) ∙ (let a = parent_new in let b = parent_old i h in cc)
 
   first_kept : (i : ℕ) → i < count_of r → first_where (child' i) (count_of r) ≡ first_child_of r i
   first_kept i h = first_cong _ _ (count_of r) (λ j b. child_old i j b) ∙ sym (inside r i _ h)
@@ -120,34 +120,30 @@ module _ (r : Receipt) (l : ℕ) where
 
   pub first_else : (i : ℕ) → i < count_of r → (innermost r ≡ Some i → last_inside r ≡ None → ⊥) → first_child_of (opened r l) i ≡ first_child_of r i
   first_else i h ne = ⊎_elim
-      (λ (t : child' i (count_of r) ≡ true).
-      let u = same_parts (innermost r) (Some i) (sym (child_new i) ∙ t) in
-      let u' : innermost r ≡ Some i = u.1 ∙ sym u.2 in
-      first_by i h ne u' (last_inside r) refl)
+      (λ (t : child' i (count_of r) ≡ true). first_by i h ne (same_is (innermost r) (Some i) (sym (child_new i) ∙ t)) (last_inside r) refl)
       (λ (t : child' i (count_of r) ≡ false). first_opens i (omega arith) ∙ first_same (child' i) (count_of r) t ∙ first_kept i h)
       (cases_Bool (child' i (count_of r)))
 
   pub next_at : (i : ℕ) → last_inside r ≡ Some i → next_sibling_of (opened r l) i ≡ Some (count_of r)
   next_at i e =
       let s = last_some _ (count_of r) i e in
-      let u = same_parts (parent_of r i) (innermost r) s.1 in
+      let u = same_is (parent_of r i) (innermost r) s.1 in
       let nobody : (j : ℕ) → j < count_of r → later' i j ≡ false =
       λ j b. ⊎_elim
-      (λ c. later_old i j s.0 b ∙ and_right (ltb i j) _ (ap (same_rank (parent_of r j)) (u.1 ∙ sym u.2) ∙ s.2 j c b))
+      (λ c. later_old i j s.0 b ∙ and_right (ltb i j) _ (ap (same_rank (parent_of r j)) u ∙ s.2 j c b))
       (λ c. and_left (ltb i j) _ (le-ltb i j c)) (cases_lt i j) in
-      next_opens i (omega arith) ∙ first_new (later' i) (count_of r) nobody (later_new i s.0 ∙ same_from (innermost r) (parent_of r i) u.0 u.2 u.1)
+      next_opens i (omega arith) ∙ first_new (later' i) (count_of r) nobody (later_new i s.0 ∙ same_rank_sym (parent_of r i) (innermost r) s.1)
 
   next_by : (i : ℕ) → i < count_of r → (last_inside r ≡ Some i → ⊥) → same_rank (innermost r) (parent_of r i) ≡ true → (o : Option ℕ) → last_inside r ≡ o → next_sibling_of (opened r l) i ≡ next_sibling_of r i
   next_by i h ne t None e =
-      let u = same_parts (innermost r) (parent_of r i) t in
-      absurd (both_ways _ (last_none_all _ (count_of r) e i h) (same_from (parent_of r i) (innermost r) u.0 u.2 u.1))
+      absurd (both_ways _ (last_none_all _ (count_of r) e i h) (same_rank_sym (innermost r) (parent_of r i) t))
   next_by i h ne t (Some q) e =
-      let u = same_parts (innermost r) (parent_of r i) t in
+      let u = same_is (innermost r) (parent_of r i) t in
       let s = last_some _ (count_of r) q e in
-      let sib = same_from (parent_of r i) (innermost r) u.0 u.2 u.1 in
-      let not_i : (i ≡ q) → ⊥ = λ (m : i ≡ q). ne (e ∙ ap Some (sym m)) in
-      let before : i < q = ⊎_elim (λ c. c) (λ c. absurd (both_ways _ (s.2 i (omega arith) h) sib)) (cases_lt i q) in
-      let k : later' i q ≡ true = later_old i q h s.0 ∙ and_from (ltb i q) _ (lt-ltb i q before) (ap (same_rank (parent_of r q)) (u.2 ∙ sym u.1) ∙ s.1) in
+      let sib = same_rank_sym (innermost r) (parent_of r i) t in
+      let miss = s.2 i in
+      let before : i < q = grind arith in
+      let k : later' i q ≡ true = later_old i q h s.0 ∙ and_from (ltb i q) _ (lt-ltb i q before) (ap (same_rank (parent_of r q)) (sym u) ∙ s.1) in
       next_opens i (omega arith) ∙ first_more (later' i) (count_of r) q s.0 k ∙ next_kept i h
 
   pub next_else : (i : ℕ) → i < count_of r → (last_inside r ≡ Some i → ⊥) → next_sibling_of (opened r l) i ≡ next_sibling_of r i
@@ -162,18 +158,10 @@ module _ (r : Receipt) (l : ℕ) where
       let v = level_new in
       record {
         few = omega arith;
-        first = λ h. ⊎_elim (λ (z : count_of r ≡ 0). let e = w.empty_depth z in let q = ap (level_at (opened r l)) z in omega arith)
-            (λ nz. level_old 0 (omega arith) ∙ w.first (omega arith)) (cases_eq (count_of r) 0);
-        later = λ i h. ⊎_elim
-            (λ (z : i + 1 ≡ count_of r). let q = ap (level_at (opened r l)) z in let o = level_old i (omega arith) in let u = w.open_depth i z in let d = live (omega arith) in (omega arith, omega arith))
-            (λ nz. let x = w.later i (omega arith) in let a = level_old (i + 1) (omega arith) in let b = level_old i (omega arith) in (omega arith, omega arith))
-            (cases_eq (i + 1) (count_of r));
-        shallow = λ i h. ⊎_elim (λ (z : i ≡ count_of r). let q = ap (level_at (opened r l)) z in omega arith)
-            (λ nz. let x = w.shallow i (omega arith) in let a = level_old i (omega arith) in omega arith) (cases_eq i (count_of r));
-        named = λ i h. ⊎_elim
-            (λ (z : i ≡ count_of r). let q = ap (label_at (opened r l)) z ∙ label_new in (omega arith, omega arith))
-            (λ nz. let x = w.named i (omega arith) in let a = ap (λ (e : Element). e.label) (element_old i (omega arith)) in (omega arith, omega arith))
-            (cases_eq i (count_of r));
+        first = λ h. let o = level_old 0 in let f = w.first in let e = w.empty_depth in grind arith;
+        later = λ i h. let x = w.later i in let a = level_old (i + 1) in let b = level_old i (omega arith) in let u = w.open_depth i in (grind arith, grind arith);
+        shallow = λ i h. let o = level_old i in let x = w.shallow i in grind arith;
+        named = λ i h. let n = label_new in let o = label_old i in let x = w.named i in (grind arith, grind arith);
         empty_depth = λ z. absurd (omega arith);
-        open_depth = λ i z. let q : i ≡ count_of r = omega arith in let x = ap (level_at (opened r l)) q in omega arith;
+        open_depth = λ i z. grind arith;
       }

@@ -1,9 +1,11 @@
 -- Bytes that are read as a roll: what acceptance says, and that rolls and accepted bytes are the same.
-use Rattle.std.proofs.Common.{◌≡◌, ℕ, zero, suc, ◌+◌, ◌-◌, ◌<◌, ◌≤◌, Bool, true, false, cond, not, eqb, ltb, List, [], ◌∷◌, ◌++◌, length, get_or, Some, None, Option, sym, refl, ap, ◌∙◌, ⊎_elim, arith}
+use Rattle.std.proofs.Common.{◌≡◌, ℕ, zero, suc, ◌+◌, ◌-◌, ◌<◌, ◌≤◌, Bool, true, false, cond, List, [], ◌∷◌, length, get_or, Some, None, Option, sym, refl, ap, ◌∙◌, ⊎_elim, arith}
 use Rattle.std.specs.Int.Digits.{AllBelowBase}
 use Rattle.std.proofs.lemmas.List.FromFn.{length-map-range_with_len, get_or-map-range_with_len}
 use Rattle.std.proofs.lemmas.List.{ext_get_or}
-use Rattle.std.proofs.lemmas.Bool.{or_parts, or_from, not-false, not_from_true, eqb-true, eqb-false, eq-eqb, ne_eqb, ltb-false, le-ltb, leb-false, cases_eq, cases_lt, cond-true, cond-false, cond_both}
+use Rattle.std.proofs.lemmas.Bool.{ltb-false, cases_eq, cases_lt}
+use Rattle.std.proofs.lemmas.Bool.Decides.{nat_tests}
+use Rattle.std.proofs.lemmas.Option.{none-some}
 use Rattle.model.specs.declared.fault.RollFault.{RollFault}
 use Rattle.model.specs.declared.fault.RollFault.TheVariants.{NoRoll, BadLayout, BadDepth}
 use Rattle.model.specs.Limits.{most_elements, most_label, most_depth}
@@ -42,72 +44,52 @@ pub record Accepted (bytes : List ℕ) : Type 0 where
   pub depth_keeps : depth_in bytes ≤ greatest_depth bytes (count_in bytes)
 
 neither : (b : Bool) (f : RollFault) (o : Option RollFault) → cond b (Some f) o ≡ None → (b ≡ false) × (o ≡ None)
-neither true f o e = let z : ◌≡◌ {A = ℕ} 0 1 = cc in absurd (omega arith)
+neither true f o e = absurd (none-some f (sym e))
 neither false f o e = (refl, e)
 
 nowhere : (f : ℕ → RollFault) (o : Option ℕ) (next : Option RollFault) → fault_at f o next ≡ None → (o ≡ None) × (next ≡ None)
 nowhere f None next e = (refl, e)
-nowhere f (Some i) next e = let z : ◌≡◌ {A = ℕ} 0 1 = cc in absurd (omega arith)
-
-equal : (a b : ℕ) → not (eqb a b) ≡ false → a ≡ b
-equal a b e = eqb-true a b (not-false (eqb a b) e)
+nowhere f (Some i) next e = absurd (none-some (f i) (sym e))
 
 pub accepted : (bytes : List ℕ) → reading_fault bytes ≡ None → Accepted bytes
 unfolding reading_fault
 accepted bytes e =
     let a = neither (foreign bytes) NoRoll _ e in
-    let head = or_parts (ltb (length bytes) header_length) _ a.0 in
     let b = neither (misplaced bytes) BadLayout _ a.1 in
-    let m = or_parts (ltb most_elements (count_in bytes)) _ b.0 in
-    let m' = or_parts (not (eqb (two_bytes_at bytes 4) header_length)) _ m.1 in
-    let m'' = or_parts (not (eqb (two_bytes_at bytes 6) (header_length + count_in bytes))) _ m'.1 in
     let c = nowhere _ (first_where (level_breaks bytes) (count_in bytes)) _ b.1 in
     let d = nowhere _ (first_where (label_breaks bytes (count_in bytes)) (count_in bytes)) _ c.1 in
     let f = neither _ BadDepth None d.1 in
+    let head = a.0 in
+    let layout = b.0 in
     record {
-      long = ltb-false (length bytes) header_length head.0;
-      edited = equal (byte_at bytes 0) edition head.1;
-      few = ltb-false most_elements (count_in bytes) m.0;
-      levels_at = equal (two_bytes_at bytes 4) header_length m'.0;
-      labels_at = equal (two_bytes_at bytes 6) (header_length + count_in bytes) m''.0;
-      whole = equal (length bytes) (roll_length (count_in bytes)) m''.1;
+      long = grind (arith, nat_tests);
+      edited = grind (arith, nat_tests);
+      few = grind (arith, nat_tests);
+      levels_at = grind (arith, nat_tests);
+      labels_at = grind (arith, nat_tests);
+      whole = grind (arith, nat_tests);
       levels_keep = first_none_all (level_breaks bytes) (count_in bytes) c.0;
       labels_keep = first_none_all (label_breaks bytes (count_in bytes)) (count_in bytes) d.0;
       depth_keeps = ltb-false (greatest_depth bytes (count_in bytes)) (depth_in bytes) f.0;
     }
 
-unequal : (a b : ℕ) → a ≡ b → not (eqb a b) ≡ false
-unequal a b e = not_from_true (eqb a b) (eq-eqb a b e)
+-- Accepted bytes are of this edition, and nothing in them is misplaced.
+not_foreign : (bytes : List ℕ) → Accepted bytes → foreign bytes ≡ false
+not_foreign bytes a = grind (arith, nat_tests, a.long, a.edited)
+
+not_misplaced : (bytes : List ℕ) → Accepted bytes → misplaced bytes ≡ false
+not_misplaced bytes a = grind (arith, nat_tests, a.few, a.levels_at, a.labels_at, a.whole)
 
 pub accepted_is : (bytes : List ℕ) → Accepted bytes → reading_fault bytes ≡ None
 accepted_is bytes a =
-    no_fault bytes (or_from _ _ (le-ltb (length bytes) header_length a.long) (unequal (byte_at bytes 0) edition a.edited))
-    (or_from _ _ (le-ltb most_elements (count_in bytes) a.few)
-    (or_from _ _ (unequal _ header_length a.levels_at)
-    (or_from _ _ (unequal _ (header_length + count_in bytes) a.labels_at) (unequal _ (roll_length (count_in bytes)) a.whole))))
-    (first_none (level_breaks bytes) (count_in bytes) a.levels_keep)
-    (first_none (label_breaks bytes (count_in bytes)) (count_in bytes) a.labels_keep)
-    a.depth_keeps
+    no_fault bytes (not_foreign bytes a) (not_misplaced bytes a) (first_none (level_breaks bytes) (count_in bytes) a.levels_keep) (first_none (label_breaks bytes (count_in bytes)) (count_in bytes) a.labels_keep) a.depth_keeps
 
--- What each test says where it is false.
-first_keeps : (i u v : ℕ) → wrong_level i u v ≡ false → i ≡ 0 → v ≡ 0
-first_keeps i u v k e = equal v 0 (sym (cond-true (eqb i 0) (not (eqb v 0)) _ (eq-eqb i 0 e)) ∙ k)
-
+-- What the tests of a later level and of a label say where they are false.
 later_keeps : (i u v : ℕ) → wrong_level i u v ≡ false → 0 < i → (1 ≤ v) × (v ≤ u + 1) × (v < most_depth)
-later_keeps i u v k h =
-    let p = or_parts (eqb v 0) _ (sym (cond-false (eqb i 0) (not (eqb v 0)) _ (ne_eqb i 0 (λ e. omega arith))) ∙ k) in
-    let q = or_parts (ltb (u + 1) v) _ p.1 in
-    let nz = eqb-false v 0 p.0 in
-    (omega arith, ltb-false (u + 1) v q.0, leb-false most_depth v q.1)
+later_keeps i u v k h = (grind (arith, nat_tests), grind (arith, nat_tests), grind (arith, nat_tests))
 
 label_keeps : (v : ℕ) → wrong_label v ≡ false → (1 ≤ v) × (v ≤ most_label)
-label_keeps v k = let p = or_parts (eqb v 0) _ k in let nz = eqb-false v 0 p.0 in (omega arith, ltb-false most_label v p.1)
-
-depth_empty : (n d l : ℕ) → d ≤ cond (eqb n 0) 0 (l + 1) → n ≡ 0 → d ≡ 0
-depth_empty n d l h e = let c : cond (eqb n 0) 0 (l + 1) ≡ 0 = cond-true (eqb n 0) 0 (l + 1) (eq-eqb n 0 e) in omega arith
-
-depth_open : (n d l : ℕ) → d ≤ cond (eqb n 0) 0 (l + 1) → d ≤ l + 1
-depth_open n d l h = cond_both (eqb n 0) 0 (l + 1) (λ m. d ≤ m → d ≤ l + 1) (λ e k. omega arith) (λ e k. k) h
+label_keeps v k = (grind (arith, nat_tests), grind (arith, nat_tests))
 
 -- the bytes of the header
 abbrev pub first_eight : List ℕ → List ℕ
@@ -130,7 +112,7 @@ two_read bytes at n u e = ap (big_endian 2) (sym e) ∙ number_read 2 (byte_at b
 -- The rules of a lawful receipt, from the bytes.
 module _ (bytes : List ℕ) (a : Accepted bytes) where
   level_first : (i : ℕ) → i < count_in bytes → i ≡ 0 → byte_at bytes (level_place i) ≡ 0
-  level_first i h e = first_keeps i (byte_at bytes (level_place (i - 1))) (byte_at bytes (level_place i)) (a.levels_keep i h) e
+  level_first i h e = let k = a.levels_keep i h in grind (arith, nat_tests)
 
   level_later : (i : ℕ) → i < count_in bytes → 0 < i
       → (1 ≤ byte_at bytes (level_place i)) × (byte_at bytes (level_place i) ≤ byte_at bytes (level_place (i - 1)) + 1) × (byte_at bytes (level_place i) < most_depth)
@@ -155,13 +137,13 @@ module _ (bytes : List ℕ) (a : Accepted bytes) where
             (omega arith, omega arith);
         shallow = λ i h. let x = level_shallow i (omega arith) in let u = at i (omega arith) in omega arith;
         named = λ i h. let x = label_keeps (byte_at bytes (label_place (count_in bytes) i)) (a.labels_keep i (omega arith)) in let u = told_label bytes (count_in bytes) i (omega arith) in (omega arith, omega arith);
-        empty_depth = λ e. depth_empty (count_in bytes) (depth_in bytes) (byte_at bytes (level_place (count_in bytes - 1))) a.depth_keeps (sym n ∙ e);
+        empty_depth = λ e. let d = a.depth_keeps in grind (arith, nat_tests);
         open_depth = λ i e.
             let z : i ≡ count_in bytes - 1 = omega arith in
             let q = ap (λ j. byte_at bytes (level_place j)) z in
             let u = at i (omega arith) in
-            let x = depth_open (count_in bytes) (depth_in bytes) (byte_at bytes (level_place (count_in bytes - 1))) a.depth_keeps in
-            omega arith;
+            let d = a.depth_keeps in
+            grind (arith, nat_tests);
       }
 
   header_read : AllBelowBase 256 (first_eight bytes) → header (depth_in bytes) (count_in bytes) ≡ first_eight bytes
@@ -169,10 +151,7 @@ module _ (bytes : List ℕ) (a : Accepted bytes) where
       let p = two_read bytes 2 (count_in bytes) (u.1.1.0, (u.1.1.1.0, tt)) refl in
       let q = two_read bytes 4 header_length (u.1.1.1.1.0, (u.1.1.1.1.1.0, tt)) a.levels_at in
       let s = two_read bytes 6 (header_length + count_in bytes) (u.1.1.1.1.1.1.0, (u.1.1.1.1.1.1.1.0, tt)) a.labels_at in
-      ap (λ zs. edition ∷ depth_in bytes ∷ (zs ++ (big_endian 2 header_length ++ big_endian 2 (header_length + count_in bytes)))) p
-      ∙ ap (λ zs. edition ∷ depth_in bytes ∷ byte_at bytes 2 ∷ byte_at bytes 3 ∷ (zs ++ big_endian 2 (header_length + count_in bytes))) q
-      ∙ ap (λ zs. edition ∷ depth_in bytes ∷ byte_at bytes 2 ∷ byte_at bytes 3 ∷ byte_at bytes 4 ∷ byte_at bytes 5 ∷ zs) s
-      ∙ ap (λ b. b ∷ depth_in bytes ∷ byte_at bytes 2 ∷ byte_at bytes 3 ∷ byte_at bytes 4 ∷ byte_at bytes 5 ∷ byte_at bytes 6 ∷ byte_at bytes 7 ∷ []) (sym a.edited)
+      cc
 
   same_byte : AllBelowBase 256 (first_eight bytes) → (at : ℕ) → at < length bytes → byte_at bytes at ≡ get_or (roll_of (receipt_in bytes)) at 0
   same_byte u at h =

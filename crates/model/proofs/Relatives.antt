@@ -1,7 +1,8 @@
 -- Parents: that they exist, which one it is, and what stands between.
-use Rattle.std.proofs.Common.{◌≡◌, ℕ, zero, suc, ◌+◌, ◌-◌, ◌<◌, ◌≤◌, ltb, ◌⊎◌, Some, None, Option, refl, ap, inl, inr, ⊎_elim, add-one, arith}
+use Rattle.std.proofs.Common.{◌≡◌, ℕ, zero, suc, ◌+◌, ◌-◌, ◌<◌, ◌≤◌, ltb, Some, None, Option, ⊎_elim, add-one, arith}
 use Rattle.std.proofs.lemmas.Bool.{cases_eq, cond-true, lt-ltb}
 use Rattle.std.proofs.lemmas.Bool.Decides.{nat_tests}
+use Rattle.std.proofs.lemmas.Option.{none-some}
 use Rattle.model.specs.Receipt.{Receipt, Lawful, within, count_of, level_at, nearest, parent_of}
 
 -- An answer at an element is that answer.
@@ -10,17 +11,13 @@ inside r i o h = cond-true (ltb i (count_of r)) o None (lt-ltb i (count_of r) h)
 
 pub nearest_some : (r : Receipt) (v k p : ℕ) → nearest r.elements v k ≡ Some p → (p < k) × (level_at r p + 1 ≡ v)
 unfolding nearest
-nearest_some r v zero p e = let z : ◌≡◌ {A = ℕ} 0 1 = cc in omega arith
+nearest_some r v zero p e = absurd (none-some p e)
 nearest_some r v (suc k) p e = let ih = nearest_some r v k p in grind (arith, nat_tests)
 
 pub nearest_none : (r : Receipt) (v k : ℕ) → nearest r.elements v k ≡ None → (j : ℕ) → j < k → level_at r j + 1 ≡ v → ⊥
 unfolding nearest
 nearest_none r v zero e j h q = omega arith
 nearest_none r v (suc k) e j h q = let ih = nearest_none r v k in grind (arith, nat_tests)
-
-zero_or : (n : ℕ) → (n ≡ 0) ⊎ (1 ≤ n)
-zero_or zero = inl refl
-zero_or (suc n) = inr (omega arith)
 
 pub parent_some : (r : Receipt) (i p : ℕ) → parent_of r i ≡ Some p → (i < count_of r) × (p < i) × (level_at r p + 1 ≡ level_at r i)
 parent_some r i p e = let s = nearest_some r (level_at r i) i p in grind (arith, nat_tests)
@@ -44,7 +41,7 @@ parent_none r l (suc k) h e =
     let step : level_at r (suc k) ≤ level_at r k + 1 = omega arith in
     let b : nearest r.elements (level_at r (suc k)) (suc k) ≡ None = grind (arith, nat_tests) in
     let misses = nearest_exists r l k (level_at r (suc k)) in
-    ⊎_elim (λ z. z) (λ pos. absurd (misses (omega arith) pos step b)) (zero_or (level_at r (suc k)))
+    ⊎_elim (λ z. z) (λ ne. absurd (misses (omega arith) (omega arith) step b)) (cases_eq (level_at r (suc k)) 0)
 
 -- No nearer place has that level.
 pub nearest_no_nearer : (r : Receipt) (v k p : ℕ) → nearest r.elements v k ≡ Some p → (j : ℕ) → p < j → j < k → level_at r j + 1 ≡ v → ⊥
@@ -56,14 +53,11 @@ nearest_no_nearer r v (suc k) p e j a b q = let ih = nearest_no_nearer r v k p i
 pub nearest_is : (r : Receipt) (v k p : ℕ) → p < k → level_at r p + 1 ≡ v → ((j : ℕ) → p < j → j < k → level_at r j + 1 ≡ v → ⊥) → nearest r.elements v k ≡ Some p
 unfolding nearest
 nearest_is r v zero p h q misses = absurd (omega arith)
-nearest_is r v (suc k) p h q misses = ⊎_elim
-    (λ (e : p ≡ k). grind (arith, nat_tests))
-    (λ ne. let ih = nearest_is r v k p (omega arith) q (λ j a b. misses j a (omega arith)) in let n = misses k (omega arith) (omega arith) in grind (arith, nat_tests))
-    (cases_eq p k)
+nearest_is r v (suc k) p h q misses = let ih = λ (b : p < k). nearest_is r v k p b q (λ j a c. misses j a (omega arith)) in let n = misses k in grind (arith, nat_tests)
 
 -- What stands between an element and its parent is no higher than the element.
 between_from : (r : Receipt) → Lawful r → (i p : ℕ) → i < count_of r → nearest r.elements (level_at r i) i ≡ Some p → (m k : ℕ) → k + m ≡ i → p < k → level_at r i ≤ level_at r k
-between_from r l i p h e zero k s a = let q : k ≡ i = omega arith in let x = ap (level_at r) q in omega arith
+between_from r l i p h e zero k s a = let q : k ≡ i = omega arith in grind arith
 between_from r l i p h e (suc m) k s a =
     let ih = between_from r l i p h e m (k + 1) (omega arith) (omega arith) in
     let up = (l.later k (omega arith)).1 in

@@ -1,7 +1,6 @@
 -- The bytes of a roll, one by one.
 use Rattle.std.proofs.Common.{◌≡◌, ℕ, ◌+◌, ◌-◌, ◌<◌, ◌≤◌, List, ◌++◌, length, get_or, refl, ◌∙◌, arith, length-append}
-use lib.ListN.{length-map}
-use Rattle.std.proofs.lemmas.List.{get_or_append_left, get_or-append_right, get_or-map}
+use Rattle.std.proofs.lemmas.List.{length-map, get_or_append_left, get_or-append_right, get_or-map}
 use Rattle.model.specs.Receipt.{Element, Receipt, absent, count_of, level_at, label_at}
 use Rattle.model.specs.Roll.{header, header_length, levels, labels, roll_length, roll_of}
 
@@ -19,12 +18,7 @@ labels_long r = length-map r.elements (λ (e : Element). e.label)
 
 pub roll_long : (r : Receipt) → length (roll_of r) ≡ roll_length (count_of r)
 unfolding roll_of
-roll_long r =
-    let a = length-append (head r) (body r) in
-    let b = length-append (levels r.elements) (labels r.elements) in
-    let c = levels_long r in
-    let d = labels_long r in
-    omega arith
+roll_long r = simp (length-append, length-map) (omega arith)
 
 pub roll_head : (r : Receipt) (at : ℕ) → at < header_length → get_or (roll_of r) at 0 ≡ get_or (header r.depth (count_of r)) at 0
 unfolding roll_of

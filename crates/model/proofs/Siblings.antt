@@ -1,9 +1,9 @@
 -- First children and siblings by levels.
-use Rattle.std.proofs.Common.{◌≡◌, ℕ, ◌+◌, ◌-◌, ◌<◌, ◌≤◌, true, false, ltb, Some, None, Option, sym, refl, ap, ◌∙◌, ⊎_elim, arith}
-use Rattle.std.proofs.lemmas.Bool.{cases_lt, cases_eq, cases_Bool, lt-ltb, le-ltb, and_from, and_left, and_right}
+use Rattle.std.proofs.Common.{◌≡◌, ℕ, ◌+◌, ◌-◌, ◌<◌, ◌≤◌, true, ltb, Some, None, Option, sym, refl, ap, ◌∙◌, arith}
+use Rattle.std.proofs.lemmas.Bool.{and_parts, ltb-true, lt-ltb, and_from, false_from_ne_true}
 use Rattle.model.specs.Receipt.{Receipt, Lawful, count_of, level_at, nearest, parent_of, first_child_of, next_sibling_of, previous_sibling_of, same_rank}
 use Rattle.model.proofs.Relatives.{inside, parent_some, parent_none, between, nearest_no_nearer, nearest_is}
-use Rattle.model.proofs.Search.{first_none, last_is, last_none, apart_rank, same_rank_lem, same_parts}
+use Rattle.model.proofs.Search.{first_none, last_is, last_none, apart_rank, same_rank_lem, same_parts, same_rank_sym}
 use Rattle.model.proofs.Firsts.{first_is}
 
 module _ (r : Receipt) (w : Lawful r) where
@@ -20,10 +20,7 @@ module _ (r : Receipt) (w : Lawful r) where
       inside r i _ h
       ∙ first_none _ (count_of r)
       (λ j b. apart_rank (parent_of r j) i
-      (λ e.
-      let s = parent_some r j i e in
-      let f = flat (omega arith) in
-      ⊎_elim (λ (q : j ≡ i + 1). let x = ap (level_at r) q in omega arith) (λ ne. let x = between r w j i (i + 1) e (omega arith) (omega arith) in omega arith) (cases_eq j (i + 1))))
+      (λ e. let s = parent_some r j i e in let x = between r w j i (i + 1) e (omega arith) in let f = flat (omega arith) in grind arith))
 
   -- Elements with the same parent have the same level, and what stands between them is no higher.
   pub same_level : (i j : ℕ) → same_rank (parent_of r j) (parent_of r i) ≡ true → (level_at r i ≡ level_at r j) × ((k : ℕ) → i < k → k < j → level_at r i ≤ level_at r k)
@@ -39,73 +36,53 @@ module _ (r : Receipt) (w : Lawful r) where
       let z = parent_none r w j b q in
       let one = (w.later (j - 1) (omega arith)).0 in
       let m : (j - 1) + 1 ≡ j = omega arith in
-      let x = ap (level_at r) m in
-      absurd (omega arith)
+      grind arith
   sibling_by i j h b e over (Some p) q =
       let s = parent_some r j p q in
       let n : nearest r.elements (level_at r j) j ≡ Some p = sym (inside r j _ b) ∙ q in
-      let left : p < i = ⊎_elim (λ c. c)
-      (λ (c : i ≤ p). ⊎_elim (λ (m : i ≡ p). let x = ap (level_at r) m in absurd (omega arith)) (λ ne. let x = over p (omega arith) s.1 in absurd (omega arith)) (cases_eq i p))
-      (cases_lt p i) in
+      let x = over p in
+      let left : p < i = grind arith in
       let u : parent_of r i ≡ Some p = inside r i _ (omega arith) ∙ nearest_is r (level_at r i) i p left (omega arith) (λ k c d f. nearest_no_nearer r (level_at r j) j p n k c (omega arith) (omega arith)) in
       ap (same_rank (parent_of r j)) u ∙ same_rank_lem (parent_of r j) p q
 
   pub siblings : (i j : ℕ) → i < j → j < count_of r → level_at r i ≡ level_at r j → ((k : ℕ) → i < k → k < j → level_at r i ≤ level_at r k) → same_rank (parent_of r j) (parent_of r i) ≡ true
   siblings i j h b e over = sibling_by i j h b e over (parent_of r j) refl
 
-  flipped : (i j : ℕ) → same_rank (parent_of r i) (parent_of r j) ≡ true → same_rank (parent_of r j) (parent_of r i) ≡ true
-  flipped i j t = let s = same_parts (parent_of r i) (parent_of r j) t in ap (same_rank (parent_of r j)) s.1 ∙ same_rank_lem (parent_of r j) s.0 s.2
-
   -- The next sibling: the first later element that is no deeper, if it is no higher either.
   pub next_found : (i q : ℕ) → i < q → q < count_of r → ((j : ℕ) → i < j → j < q → level_at r i < level_at r j) → level_at r q ≡ level_at r i → next_sibling_of r i ≡ Some q
   next_found i q h b deeper e =
       inside r i _ (omega arith)
       ∙ first_is _ (count_of r) q b (and_from (ltb i q) _ (lt-ltb i q h) (siblings i q h b (sym e) (λ k c d. let x = deeper k c d in omega arith)))
-      (λ j c. ⊎_elim
-      (λ (t : same_rank (parent_of r j) (parent_of r i) ≡ true). and_left (ltb i j) _
-      (le-ltb i j (⊎_elim (λ (m : i < j). let x = deeper j m c in let y = (same_level i j t).0 in absurd (omega arith)) (λ m. m) (cases_lt i j))))
-      (λ t. and_right (ltb i j) _ t)
-      (cases_Bool (same_rank (parent_of r j) (parent_of r i))))
+      (λ j c. false_from_ne_true _ (λ t. let s = and_parts (ltb i j) _ t in let x = deeper j (ltb-true i j s.0) c in let y = (same_level i j s.1).0 in omega arith))
 
   pub next_none : (i q : ℕ) → i < q → i < count_of r → ((j : ℕ) → i < j → j < q → level_at r i < level_at r j) → (q < count_of r → level_at r q < level_at r i) → next_sibling_of r i ≡ None
   next_none i q before h deeper higher =
       inside r i _ h
       ∙ first_none _ (count_of r)
-      (λ j c. ⊎_elim
-      (λ (t : same_rank (parent_of r j) (parent_of r i) ≡ true). and_left (ltb i j) _
-      (le-ltb i j (⊎_elim (λ (m : i < j). absurd (passed j c m (same_level i j t))) (λ m. m) (cases_lt i j))))
-      (λ t. and_right (ltb i j) _ t)
-      (cases_Bool (same_rank (parent_of r j) (parent_of r i))))
+      (λ j c. false_from_ne_true _ (λ t. let s = and_parts (ltb i j) _ t in passed j c (ltb-true i j s.0) (same_level i j s.1)))
     where
       passed : (j : ℕ) → j < count_of r → i < j → (level_at r i ≡ level_at r j) × ((k : ℕ) → i < k → k < j → level_at r i ≤ level_at r k) → ⊥
-      passed j c m s = ⊎_elim
-          (λ (d : j < q). let x = deeper j m d in omega arith)
-          (λ (d : q ≤ j). let x = higher (omega arith) in ⊎_elim (λ (f : q ≡ j). let y = ap (level_at r) f in omega arith) (λ ne. let y = s.1 q before (omega arith) in omega arith) (cases_eq q j))
-          (cases_lt j q)
+      passed j c m s = let x = deeper j m in let z = higher in let y = s.1 q before in grind arith
 
   -- The previous sibling: the last earlier element that is no deeper, if it is no higher either.
   pub previous_found : (i q : ℕ) → q < i → i < count_of r → ((j : ℕ) → q < j → j < i → level_at r i < level_at r j) → level_at r q ≡ level_at r i → previous_sibling_of r i ≡ Some q
   previous_found i q h b deeper e =
       inside r i _ b
-      ∙ last_is _ i q h (flipped i q (siblings q i h b e (λ k c d. let x = deeper k c d in omega arith)))
-      (λ j c d. apart j (λ t. let x = deeper j c d in let y = (same_level i j t).0 in omega arith))
-    where
-      apart : (j : ℕ) → (same_rank (parent_of r j) (parent_of r i) ≡ true → ⊥) → same_rank (parent_of r j) (parent_of r i) ≡ false
-      apart j ne = ⊎_elim (λ (t : same_rank (parent_of r j) (parent_of r i) ≡ true). absurd (ne t)) (λ t. t) (cases_Bool (same_rank (parent_of r j) (parent_of r i)))
+      ∙ last_is _ i q h (same_rank_sym (parent_of r i) (parent_of r q) (siblings q i h b e (λ k c d. let x = deeper k c d in omega arith)))
+      (λ j c d. false_from_ne_true _ (λ t. let x = deeper j c d in let y = (same_level i j t).0 in omega arith))
 
   pub previous_none : (i q : ℕ) → q < i → i < count_of r → ((j : ℕ) → q < j → j < i → level_at r i < level_at r j) → level_at r q < level_at r i → previous_sibling_of r i ≡ None
   previous_none i q h b deeper higher =
       inside r i _ b
       ∙ last_none _ i
-      (λ j d. ⊎_elim (λ (t : same_rank (parent_of r j) (parent_of r i) ≡ true). absurd (passed j d t)) (λ t. t) (cases_Bool (same_rank (parent_of r j) (parent_of r i))))
+      (λ j d. false_from_ne_true _ (passed j d))
     where
       passed : (j : ℕ) → j < i → same_rank (parent_of r j) (parent_of r i) ≡ true → ⊥
       passed j d t =
-          let s = same_level j i (flipped j i t) in
-          ⊎_elim
-          (λ (c : q < j). let x = deeper j c d in omega arith)
-          (λ (c : j ≤ q). ⊎_elim (λ (f : j ≡ q). let y = ap (level_at r) f in omega arith) (λ ne. let y = s.1 q (omega arith) h in omega arith) (cases_eq j q))
-          (cases_lt q j)
+          let s = same_level j i (same_rank_sym (parent_of r j) (parent_of r i) t) in
+          let x = deeper j in
+          let y = s.1 q in
+          grind arith
 
   pub first_alone : (i : ℕ) → i ≡ 0 → i < count_of r → previous_sibling_of r i ≡ None
   first_alone i z h = inside r i _ h ∙ last_none _ i (λ j b. absurd (omega arith))

@@ -1,6 +1,7 @@
 -- Ancestors by levels: x is an ancestor of y exactly if everything after x up to y is deeper than x.
-use Rattle.std.proofs.Common.{◌≡◌, ℕ, zero, suc, ◌<◌, ◌≤◌, true, eqb, ◌⊎◌, Some, None, Decides, Option, refl, ap, ◌∙◌, inl, inr, ⊎_elim, arith}
-use Rattle.std.proofs.lemmas.Bool.{cases_eq, cases_lt, cases_order, eqb-true, eq-eqb, or_cases, or_left, or_right, false≢true}
+use Rattle.std.proofs.Common.{◌≡◌, ℕ, zero, suc, ◌<◌, ◌≤◌, eqb, ◌⊎◌, Some, None, Decides, Option, refl, ap, ◌∙◌, inl, inr, ⊎_elim, arith}
+use Rattle.std.proofs.lemmas.Bool.{cases_lt, cases_order, false≢true}
+use Rattle.std.proofs.lemmas.Bool.Decides.{Decides-eqb, Decides-like, Decides-or}
 use Rattle.model.specs.Receipt.{Receipt, Lawful, count_of, level_at, parent_of}
 use Rattle.model.specs.Plane.{is_among, is_ancestor}
 use Rattle.model.proofs.Relatives.{parent_some, parent_none, between}
@@ -22,7 +23,7 @@ module _ (r : Receipt) (w : Lawful r) where
   pub parent_below : (y p : ℕ) → parent_of r y ≡ Some p → Below r p y
   parent_below y p e =
       let s = parent_some r y p e in
-      (s.1, λ k a b. ⊎_elim (λ (q : k ≡ y). let x = ap (level_at r) q in omega arith) (λ ne. let x = between r w y p k e a (omega arith) in omega arith) (cases_eq k y))
+      (s.1, λ k a b. let x = between r w y p k e a in grind arith)
 
   -- What has y below it is the parent of y or has the parent below it.
   pub parent_or_above : (x y p : ℕ) → Below r x y → parent_of r y ≡ Some p → (p ≡ x) ⊎ Below r x p
@@ -33,22 +34,31 @@ module _ (r : Receipt) (w : Lawful r) where
       (⊎_elim (λ (q : p < x). let t = between r w y p x e q b.0 in absurd (omega arith)) (λ (q : x < p). inr (below_less r x p y q (omega arith) b)))
       (cases_order p x)
 
-  among_below : (n x y : ℕ) (o : Option ℕ) → parent_of r y ≡ o → is_among n r x o ≡ true → Below r x y
-  unfolding is_among
-  among_below zero x y o e t = absurd (false≢true t)
-  among_below (suc n) x y None e t = absurd (false≢true t)
-  among_below (suc n) x y (Some p) e t = ⊎_elim
-      (λ q. parent_below y x (e ∙ ap Some (eqb-true p x q)))
-      (λ q. below_trans r x p y (among_below n x p (parent_of r p) refl q) (parent_below y p e))
-      (or_cases (eqb p x) _ t)
+  no_root_below : (x y : ℕ) → y < count_of r → parent_of r y ≡ None → Below r x y → ⊥
+  no_root_below x y h e b = let z = parent_none r w y h e in let o = b.1 y b.0 (omega arith) in omega arith
 
-  below_among : (n x y : ℕ) (o : Option ℕ) → parent_of r y ≡ o → y < count_of r → level_at r y ≤ n → Below r x y → is_among n r x o ≡ true
-  unfolding is_among
-  below_among zero x y o e h f b = let o = b.1 y b.0 (omega arith) in absurd (omega arith)
-  below_among (suc n) x y None e h f b = let z = parent_none r w y h e in let o = b.1 y b.0 (omega arith) in absurd (omega arith)
-  below_among (suc n) x y (Some p) e h f b =
+  -- What holds of the children of x, and of an element if it holds of its parent, holds of all below x.
+  below_from : (x : ℕ) (P : ℕ → Type 0) → ((y : ℕ) → parent_of r y ≡ Some x → P y) → ((y p : ℕ) → parent_of r y ≡ Some p → P p → P y)
+      → (n y : ℕ) (o : Option ℕ) → parent_of r y ≡ o → y ≤ n → y < count_of r → Below r x y → P y
+  below_from x P child up n y None e f h b = absurd (no_root_below x y h e b)
+  below_from x P child up zero y (Some p) e f h b = let z = b.0 in absurd (omega arith)
+  below_from x P child up (suc n) y (Some p) e f h b =
       let s = parent_some r y p e in
-      ⊎_elim (λ q. or_left (eqb p x) _ (eq-eqb p x q)) (λ q. or_right (eqb p x) _ (below_among n x p (parent_of r p) refl (omega arith) (omega arith) q)) (parent_or_above x y p b e)
+      ⊎_elim (λ (q : p ≡ x). child y (e ∙ ap Some q)) (λ c. up y p e (below_from x P child up n p (parent_of r p) refl (omega arith) (omega arith) c)) (parent_or_above x y p b e)
+
+  pub below_by : (x : ℕ) (P : ℕ → Type 0) → ((y : ℕ) → parent_of r y ≡ Some x → P y) → ((y p : ℕ) → parent_of r y ≡ Some p → P p → P y) → (y : ℕ) → y < count_of r → Below r x y → P y
+  below_by x P child up y h b = below_from x P child up y y (parent_of r y) refl (omega arith) h b
+
+  among_is : (n x y : ℕ) (o : Option ℕ) → parent_of r y ≡ o → y < count_of r → level_at r y ≤ n → Decides (is_among n r x o) (Below r x y)
+  unfolding is_among
+  among_is zero x y o e h f = (λ t. absurd (false≢true t), λ b. let o = b.1 y b.0 (omega arith) in absurd (omega arith))
+  among_is (suc n) x y None e h f = (λ t. absurd (false≢true t), λ b. absurd (no_root_below x y h e b))
+  among_is (suc n) x y (Some p) e h f =
+      let s = parent_some r y p e in
+      Decides-like _
+      (⊎_elim (λ (q : p ≡ x). parent_below y x (e ∙ ap Some q)) (λ (q : Below r x p). below_trans r x p y q (parent_below y p e)))
+      (λ b. parent_or_above x y p b e)
+      (Decides-or (eqb p x) _ (Decides-eqb p x) (among_is n x p (parent_of r p) refl (omega arith) (omega arith)))
 
   pub ancestor_is : (x y : ℕ) → y < count_of r → Decides (is_ancestor r x y) (Below r x y)
-  ancestor_is x y h = (λ t. among_below (level_at r y) x y (parent_of r y) refl t, λ b. below_among (level_at r y) x y (parent_of r y) refl h (omega arith) b)
+  ancestor_is x y h = among_is (level_at r y) x y (parent_of r y) refl h (omega arith)

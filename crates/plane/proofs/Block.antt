@@ -1,6 +1,7 @@
 -- The descendants of x are the ranks after x, as many as its size; so the plane's tests tell what is below and what follows.
-use Rattle.std.proofs.Common.{◌≡◌, ℕ, zero, suc, ◌+◌, ◌-◌, ◌<◌, ◌≤◌, Bool, true, false, ltb, ◌⊎◌, Decides, sym, ap, ◌∙◌, inl, inr, ⊎_elim, arith}
-use Rattle.std.proofs.lemmas.Bool.{cases_eq, cases_lt, cases_Bool, both_ways, cond-true, cond-false, ltb-true, lt-ltb, and_parts, and_from}
+use Rattle.std.proofs.Common.{◌≡◌, ℕ, zero, suc, ◌+◌, ◌-◌, ◌<◌, ◌≤◌, Bool, true, false, ◌⊎◌, Decides, inl, inr, ⊎_elim, arith}
+use Rattle.std.proofs.lemmas.Bool.{cases_lt, cases_Bool, cond-true, cond-false}
+use Rattle.std.proofs.lemmas.Bool.Decides.{Decides-and, Decides-like, Decides-ltb, not_from_Decides}
 use Rattle.model.specs.Receipt.{Receipt, Lawful, count_of, level_at}
 use Rattle.model.specs.Plane.{is_ancestor, how_many, size, post, descends, follows}
 use Rattle.plane.proofs.Below.{Below, below_trans, below_less, ancestor_is}
@@ -26,7 +27,7 @@ block p x (suc n) after fills =
     let e : how_many p (suc n) ≡ how_many p n = cond-false (p n) (suc (how_many p n)) (how_many p n) t in
     record {
       short = omega arith;
-      up_to = λ k h u. ⊎_elim (λ (q : k ≡ n). absurd (both_ways (p n) t (ap p (sym q) ∙ u))) (λ ne. let v = ih.up_to k (omega arith) u in omega arith) (cases_eq k n);
+      up_to = λ k h u. let v = ih.up_to k in grind arith;
       all_of = λ k h c d. ih.all_of k (let s = ih.short in omega arith) c (omega arith);
     })
     (cases_Bool (p n))
@@ -34,23 +35,22 @@ block p x (suc n) after fills =
 module _ (r : Receipt) (w : Lawful r) where
   -- Levels rise by at most one per rank.
   pub level_rises : (x m : ℕ) → x + m < count_of r → level_at r (x + m) ≤ level_at r x + m
-  level_rises x zero h = let q : x + 0 ≡ x = omega arith in let e = ap (level_at r) q in omega arith
+  level_rises x zero h = grind arith
   level_rises x (suc m) h =
       let ih = level_rises x m (omega arith) in
       let s = (w.later (x + m) (omega arith)).1 in
       let q : x + suc m ≡ x + m + 1 = omega arith in
-      let e = ap (level_at r) q in
-      omega arith
+      grind arith
 
   pub level_from : (x y : ℕ) → x ≤ y → y < count_of r → level_at r y ≤ level_at r x + (y - x)
-  level_from x y a h = let q : x + (y - x) ≡ y = omega arith in let e = ap (level_at r) q in let s = level_rises x (y - x) (omega arith) in omega arith
+  level_from x y a h = let q : x + (y - x) ≡ y = omega arith in let s = level_rises x (y - x) (omega arith) in grind arith
 
   pub level_within : (x : ℕ) → x < count_of r → level_at r x ≤ x
   level_within x h = let s = level_from 0 x (omega arith) h in let f = w.first (omega arith) in omega arith
 
   -- Only the first element has level 0, so all others are below it.
   pub level_later : (k : ℕ) → 0 < k → k < count_of r → 1 ≤ level_at r k
-  level_later k a h = let q : k - 1 + 1 ≡ k = omega arith in let e = ap (level_at r) q in let s = (w.later (k - 1) (omega arith)).0 in omega arith
+  level_later k a h = let q : k - 1 + 1 ≡ k = omega arith in let s = (w.later (k - 1) (omega arith)).0 in grind arith
 
   pub first_above : (y : ℕ) → 0 < y → y < count_of r → Below r 0 y
   first_above y a h = (a, λ k c d. let s = level_later k c (omega arith) in let f = w.first (omega arith) in omega arith)
@@ -96,13 +96,13 @@ module _ (r : Receipt) (w : Lawful r) where
   pub after_post : (x y : ℕ) → y < count_of r → x < y → (Below r x y → ⊥) → post r x < post r y
   unfolding post
   after_post x y h a nb =
-      let out : x + size r x < y = ⊎_elim (λ c. c) (λ c. absurd (nb (sized_below x y h a c))) (cases_lt (x + size r x) y) in
+      let s = λ (c : y ≤ x + size r x). nb (sized_below x y h a c) in
+      let out : x + size r x < y = omega arith in
       let flat : level_at r (x + size r x + 1) ≤ level_at r x = ⊎_elim
       (λ (c : level_at r x < level_at r (x + size r x + 1)).
       let b : Below r x (x + size r x + 1) = (
         omega arith,
-        λ k f g. ⊎_elim (λ (q : k ≡ x + size r x + 1). let z = ap (level_at r) q in omega arith)
-            (λ ne. (sized_below x k (omega arith) f (omega arith)).1 k f (omega arith)) (cases_eq k (x + size r x + 1)),
+        λ k f g. let d = λ (m : k ≤ x + size r x). (sized_below x k (omega arith) f m).1 k f (omega arith) in grind arith,
       ) in
       let s = below_sized x (x + size r x + 1) (omega arith) b in absurd (omega arith))
       (λ c. c) (cases_lt (level_at r x) (level_at r (x + size r x + 1))) in
@@ -112,18 +112,16 @@ module _ (r : Receipt) (w : Lawful r) where
       omega arith
 
   below_or : (x y : ℕ) → y < count_of r → (Below r x y) ⊎ (Below r x y → ⊥)
-  below_or x y h = ⊎_elim (λ t. inl ((ancestor_is r w x y h).0 t)) (λ t. inr (λ b. both_ways _ t ((ancestor_is r w x y h).1 b))) (cases_Bool (is_ancestor r x y))
+  below_or x y h = let d = ancestor_is r w x y h in ⊎_elim (λ t. inl (d.0 t)) (λ t. inr (not_from_Decides _ d t)) (cases_Bool (is_ancestor r x y))
 
   pub descends_is : (x y : ℕ) → y < count_of r → Decides (descends r x y) (Below r x y)
-  descends_is x y h = (
-    (λ t. let s = and_parts (ltb x y) _ t in let a = ltb-true x y s.0 in let b = ltb-true (post r y) (post r x) s.1 in
-        ⊎_elim (λ c. c) (λ c. let d = after_post x y h a c in absurd (omega arith)) (below_or x y h)),
-    (λ b. and_from (ltb x y) _ (lt-ltb x y b.0) (lt-ltb (post r y) (post r x) (below_post x y h b))),
-  )
+  descends_is x y h = Decides-like (descends r x y)
+      (λ (s : (x < y) × (post r y < post r x)). ⊎_elim (λ c. c) (λ c. let d = after_post x y h s.0 c in absurd (omega arith)) (below_or x y h))
+      (λ b. (b.0, below_post x y h b))
+      (Decides-and _ _ (Decides-ltb x y) (Decides-ltb (post r y) (post r x)))
 
   pub follows_is : (x y : ℕ) → y < count_of r → Decides (follows r x y) ((x < y) × (Below r x y → ⊥))
-  follows_is x y h = (
-    (λ t. let s = and_parts (ltb x y) _ t in let b = ltb-true (post r x) (post r y) s.1 in
-        (ltb-true x y s.0, λ c. let d = below_post x y h c in omega arith)),
-    (λ b. and_from (ltb x y) _ (lt-ltb x y b.0) (lt-ltb (post r x) (post r y) (after_post x y h b.0 b.1))),
-  )
+  follows_is x y h = Decides-like (follows r x y)
+      (λ (s : (x < y) × (post r x < post r y)). (s.0, λ c. let d = below_post x y h c in omega arith))
+      (λ b. (b.0, after_post x y h b.0 b.1))
+      (Decides-and _ _ (Decides-ltb x y) (Decides-ltb (post r x) (post r y)))

@@ -3,10 +3,10 @@ use Rattle.std.proofs.Common.{◌≡◌, ℕ, ◌<◌, List, [], ◌∷◌, None
 use Rattle.std.proofs.lemmas.Bool.{cases_lt}
 use Rattle.model.specs.declared.action.Action.{Action}
 use Rattle.model.specs.declared.action.Action.TheVariants.{Open, Close}
-use Rattle.model.specs.Receipt.{Element, Receipt, Lawful, count_of, opened, closed}
+use Rattle.model.specs.Receipt.{Receipt, Lawful, count_of, opened, closed}
 use Rattle.model.specs.Axes.{leads}
 use Rattle.model.specs.Runs.{opening_fault, closing_fault, after_one, after}
-use Rattle.model.proofs.Opening.{count_more, element_old}
+use Rattle.model.proofs.Opening.{count_more, label_old}
 use Rattle.plane.specs.Steady.{Continues, RelationsStay}
 use Rattle.model.proofs.Lawfully.{empty_lawful, unless, opening_lawful, closing_lawful}
 use Rattle.plane.proofs.Steady.{leads_opened, leads_closed, leads_new, leads_inverse, grows_opened, grows_closed, grows_ended, backward_never_grows}
@@ -20,9 +20,9 @@ continues_opened r l w f =
     record {
       lawful = opening_lawful r l w f;
       longer = omega arith;
-      label_kept = λ x h. ap (λ (e : Element). e.label) (element_old r l x h);
+      label_kept = label_old r l;
       kept = leads_opened r l w f;
-      nothing_new = λ a x y h e b c. let q : y ≡ count_of r = omega arith in ap (leads (opened r l) a x) q ∙ leads_new r l w f a x h e;
+      nothing_new = λ a x y h e b c. let q : y ≡ count_of r = omega arith in ap (leads (opened r l) a x) q ∙ leads_new r l w f x h a e;
       shut = grows_opened r l w f;
     }
 

@@ -1,22 +1,20 @@
 -- Relations between present elements stay as a receipt goes on, and a new element is reached only where the axis may grow.
-use Rattle.std.proofs.Common.{◌≡◌, ℕ, ◌+◌, ◌-◌, ◌<◌, ◌≤◌, Bool, true, false, not, ◌&&◌, ◌||◌, eqb, ltb, Some, None, Decides, Option, sym, refl, ap, ◌∙◌, ⊎_elim, arith}
-use Rattle.std.proofs.lemmas.Bool.Decides.{same_from_decides, nat_tests}
-use Rattle.std.proofs.lemmas.Bool.{cases_eq, cases_Bool, both_ways, ltb-true, lt-ltb, le-ltb, and_parts, and_from, and_left, and_right, and_cases, or_cases, or_from, or_left, or_right, eq-eqb, eqb-true, ne_eqb, not-false, false≢true}
+use Rattle.std.proofs.Common.{◌≡◌, ℕ, ◌+◌, ◌-◌, ◌<◌, ◌≤◌, Bool, true, false, not, ◌&&◌, ◌||◌, ◌⊎◌, inl, inr, eqb, ltb, Some, None, Decides, Option, sym, refl, ap, ◌∙◌, ⊎_elim, arith}
+use Rattle.std.proofs.lemmas.Bool.Decides.{same_from_decides, nat_tests, Decides-and, Decides-or, Decides-eqb, Decides-ltb, Decides-like, not_from_Decides}
+use Rattle.std.proofs.lemmas.Bool.{false_from_ne_true, cases_eq, le-ltb, and_parts, and_left, and_right, or_from, eqb-true, ne_eqb, false≢true}
 use Rattle.model.specs.declared.axis.Axis.{Axis}
 use Rattle.model.specs.declared.axis.Axis.TheVariants.{Itself, Child, Parent, Descendant, Ancestor, DescendantOrSelf, AncestorOrSelf, FollowingSibling, PrecedingSibling, Following, Preceding}
 use Rattle.model.specs.Receipt.{Receipt, Lawful, count_of, level_at, parent_of, same_rank, has_ended, opened, closed}
-use Rattle.model.specs.Plane.{is_ancestor, descends, follows, is_open, is_open_at}
+use Rattle.model.specs.Plane.{descends, follows, is_open, is_open_at}
 use Rattle.model.specs.Axes.{leads, inverse, is_backward, grows}
 use Rattle.model.specs.Runs.{opening_fault, closing_fault}
 use Rattle.model.proofs.Opening.{level_old, level_new, parent_old, count_more}
 use Rattle.model.proofs.Relatives.{parent_some}
+use Rattle.model.proofs.Search.{same_parts}
 use Rattle.plane.proofs.Below.{Below, parent_below, ancestor_is}
 use Rattle.plane.proofs.Block.{descends_is, follows_is, first_above, level_later}
 use Rattle.model.proofs.Lawfully.{openable, opening_lawful, closing_lawful}
 use Rattle.plane.proofs.Unchanged.{Agree, leads_agrees, agree_closed}
-
-false_unless : (b : Bool) → (b ≡ true → ⊥) → b ≡ false
-false_unless b h = ⊎_elim (λ t. absurd (h t)) (λ t. t) (cases_Bool b)
 
 -- x is open: its level is below the depth and below all later levels.
 abbrev pub Opens : Receipt → ℕ → Type 0
@@ -24,21 +22,11 @@ Opens r x = (level_at r x < r.depth) × ((k : ℕ) → x < k → k < count_of r 
 
 pub open_is : (r : Receipt) → Lawful r → (x : ℕ) → x < count_of r → Decides (is_open r x) (Opens r x)
 unfolding is_open
-open_is r w x h = (
-  (λ t.
-      let s = and_parts (eqb (x + 1) (count_of r) || is_ancestor r x (count_of r - 1)) _ t in (
-        ltb-true (level_at r x) r.depth s.1,
-        λ k a b. ⊎_elim
-            (λ q. let z = eqb-true (x + 1) (count_of r) q in absurd (omega arith))
-            (λ q. ((ancestor_is r w x (count_of r - 1) (omega arith)).0 q).1 k a (omega arith))
-            (or_cases (eqb (x + 1) (count_of r)) _ s.0),
-      )),
-  (λ o. and_from (eqb (x + 1) (count_of r) || is_ancestor r x (count_of r - 1)) _
-      (⊎_elim (λ q. or_left (eqb (x + 1) (count_of r)) _ (eq-eqb (x + 1) (count_of r) q))
-      (λ q. or_right (eqb (x + 1) (count_of r)) _ ((ancestor_is r w x (count_of r - 1) (omega arith)).1 (omega arith, λ k a b. o.1 k a (omega arith))))
-      (cases_eq (x + 1) (count_of r)))
-      (lt-ltb (level_at r x) r.depth o.0)),
-)
+open_is r w x h = Decides-like _
+    (λ (s : ((x + 1 ≡ count_of r) ⊎ Below r x (count_of r - 1)) × (level_at r x < r.depth)).
+    (s.1, λ k a b. ⊎_elim (λ (q : x + 1 ≡ count_of r). absurd (omega arith)) (λ (q : Below r x (count_of r - 1)). q.1 k a (omega arith)) s.0))
+    (λ o. (⊎_elim inl (λ ne. inr (omega arith, λ k a b. o.1 k a (omega arith))) (cases_eq (x + 1) (count_of r)), o.0))
+    (Decides-and _ _ (Decides-or _ _ (Decides-eqb (x + 1) (count_of r)) (ancestor_is r w x (count_of r - 1) (omega arith))) (Decides-ltb (level_at r x) r.depth))
 
 module _ (r : Receipt) (l : ℕ) where
   below_old : (x y : ℕ) → y < count_of r → Below r x y → Below (opened r l) x y
@@ -47,22 +35,13 @@ module _ (r : Receipt) (l : ℕ) where
   below_kept : (x y : ℕ) → y < count_of r → Below (opened r l) x y → Below r x y
   below_kept x y h b = (b.0, λ k a c. let t = b.1 k a c in let p = b.0 in let u = level_old r l x (omega arith) in let v = level_old r l k (omega arith) in omega arith)
 
-  -- The new element's ancestors are exactly the open elements.
+  -- The new element's ancestors are open.
   pub below_new_open : (x : ℕ) → x < count_of r → Below (opened r l) x (count_of r) → Opens r x
   below_new_open x h b =
       let u = level_old r l x h in
       let d = b.1 (count_of r) h (omega arith) in
       let v = level_new r l in
       (omega arith, λ k a c. let t = b.1 k a (omega arith) in let z = level_old r l k c in omega arith)
-
-  pub open_below_new : (x : ℕ) → x < count_of r → Opens r x → Below (opened r l) x (count_of r)
-  open_below_new x h o = (
-    h,
-    λ k a c. ⊎_elim
-        (λ (q : k ≡ count_of r). let e = ap (level_at (opened r l)) q in let v = level_new r l in let u = level_old r l x h in let d = o.0 in omega arith)
-        (λ ne. let u = level_old r l x h in let z = level_old r l k (omega arith) in let d = o.1 k a (omega arith) in omega arith)
-        (cases_eq k (count_of r)),
-  )
 
 module _ (r : Receipt) (l : ℕ) (w : Lawful r) (f : opening_fault l r ≡ None) where
   agree_opened : (x y : ℕ) → x < count_of r → y < count_of r → Agree r (opened r l) x y
@@ -74,10 +53,10 @@ module _ (r : Receipt) (l : ℕ) (w : Lawful r) (f : opening_fault l r ≡ None)
       record {
         here = level_old r l x h;
         there = level_old r l y k;
-        below = same_from_decides _ _ (λ t. below_kept r l x y k (d.0 t), λ b. d.1 (below_old r l x y k b)) (descends_is r w x y k);
-        later = ap (λ p. same_rank p (parent_of (opened r l) x) && ltb x y) (parent_old r l y k) ∙ ap (λ p. same_rank (parent_of r y) p && ltb x y) (parent_old r l x h);
+        below = same_from_decides _ _ (Decides-like _ (below_kept r l x y k) (below_old r l x y k) d) (descends_is r w x y k);
+        later = let p = parent_old r l x h in let q = parent_old r l y k in cc;
         following = same_from_decides _ _
-            (λ t. (let s = e.0 t in (s.0, λ b. s.1 (below_old r l x y k b))), λ s. e.1 (s.0, λ b. s.1 (below_kept r l x y k b)))
+            (Decides-like _ (λ s. (s.0, λ b. s.1 (below_old r l x y k b))) (λ s. (s.0, λ b. s.1 (below_kept r l x y k b))) e)
             (follows_is r w x y k);
       }
 
@@ -89,16 +68,16 @@ leads_closed r a x y = leads_agrees r (closed r) a x y (agree_closed r x y) (agr
 
 -- What is shut stays shut.
 shut_opened : (r : Receipt) (l : ℕ) → Lawful r → opening_fault l r ≡ None → (x : ℕ) → x < count_of r → is_open r x ≡ false → is_open (opened r l) x ≡ false
-shut_opened r l w f x h e = false_unless _ (λ t.
+shut_opened r l w f x h e = false_from_ne_true _ (λ t.
     let m = count_more r l in
     let o = (open_is (opened r l) (opening_lawful r l w f) x (omega arith)).0 t in
-    both_ways _ e ((open_is r w x h).1 (below_new_open r l x h (h, λ k a b. o.1 k a (omega arith)))))
+    not_from_Decides _ (open_is r w x h) e (below_new_open r l x h (h, λ k a b. o.1 k a (omega arith))))
 
 shut_closed : (r : Receipt) → Lawful r → (x : ℕ) → x < count_of r → is_open r x ≡ false → is_open (closed r) x ≡ false
-shut_closed r w x h e = false_unless _ (λ t.
+shut_closed r w x h e = false_from_ne_true _ (λ t.
     let o = (open_is (closed r) (closing_lawful r w) x h).0 t in
     let d = o.0 in
-    both_ways _ e ((open_is r w x h).1 (omega arith, o.1)))
+    not_from_Decides _ (open_is r w x h) e (omega arith, o.1))
 
 -- An axis grows only through open elements no later than where it starts.
 grows_by : (r s : Receipt) (x : ℕ) → parent_of s x ≡ parent_of r x → ((y : ℕ) → y ≤ x → is_open r y ≡ false → is_open s y ≡ false) → (a : Axis) → grows r a x ≡ false → grows s a x ≡ false
@@ -116,7 +95,7 @@ grows_by r s x p shut FollowingSibling e = ap (is_open_at s) p ∙ parent_shut (
     parent_shut None q e = refl
     parent_shut (Some y) q e = let b = parent_some r x y q in shut y (omega arith) e
 grows_by r s x p shut PrecedingSibling e = refl
-grows_by r s x p shut Following e = ⊎_elim (λ q. and_left (not (eqb x 0)) _ q) (λ q. and_right (not (eqb x 0)) _ (shut 0 (omega arith) q)) (and_cases (not (eqb x 0)) (is_open r 0) e)
+grows_by r s x p shut Following e = let o = shut 0 (omega arith) in grind (arith, nat_tests)
 grows_by r s x p shut Preceding e = refl
 
 pub grows_opened : (r : Receipt) (l : ℕ) → Lawful r → opening_fault l r ≡ None → (a : Axis) (x : ℕ) → x < count_of r → grows r a x ≡ false → grows (opened r l) a x ≡ false
@@ -194,15 +173,13 @@ module _ (r : Receipt) (l : ℕ) (w : Lawful r) (f : opening_fault l r ≡ None)
   fresh_counts = let m = count_more r l in omega arith
 
   not_below_new : is_open r x ≡ false → descends (opened r l) x (count_of r) ≡ false
-  not_below_new e = false_unless _ (λ t. both_ways _ e ((open_is r w x h).1 (below_new_open r l x h ((descends_is (opened r l) fresh_lawful x (count_of r) fresh_counts).0 t))))
+  not_below_new e = false_from_ne_true _ (λ t. not_from_Decides _ (open_is r w x h) e (below_new_open r l x h ((descends_is (opened r l) fresh_lawful x (count_of r) fresh_counts).0 t)))
 
-  no_sibling_new : (o q : Option ℕ) → parent_of (opened r l) (count_of r) ≡ o → is_open_at r q ≡ false → same_rank o q ≡ false
-  no_sibling_new None q u e = refl
-  no_sibling_new (Some p) None u e = refl
-  no_sibling_new (Some p) (Some y) u e = ne_eqb p y (λ (m : p ≡ y).
-      let s = parent_some (opened r l) (count_of r) p u in
-      let o = (open_is r w p s.1).1 (below_new_open r l p s.1 (parent_below (opened r l) fresh_lawful (count_of r) p u)) in
-      both_ways _ e (ap (is_open r) (sym m) ∙ o))
+  no_sibling_new : (q : Option ℕ) → is_open_at r q ≡ false → same_rank (parent_of (opened r l) (count_of r)) q ≡ false
+  no_sibling_new q e = false_from_ne_true _ (λ t.
+      let m = same_parts (parent_of (opened r l) (count_of r)) q t in
+      let s = parent_some (opened r l) (count_of r) m.0 m.1 in
+      not_from_Decides _ (open_is r w m.0 s.1) (sym (ap (is_open_at r) m.2) ∙ e) (below_new_open r l m.0 s.1 (parent_below (opened r l) fresh_lawful (count_of r) m.0 m.1)))
 
   -- Before the end the first element is open, and all others are below it.
   first_open : is_open r 0 ≡ true
@@ -213,27 +190,23 @@ module _ (r : Receipt) (l : ℕ) (w : Lawful r) (f : opening_fault l r ≡ None)
       (open_is r w 0 (omega arith)).1 (omega arith, λ k a b. let v = level_later r w k a b in omega arith)
 
   not_after_new : (not (eqb x 0) && is_open r 0) ≡ false → follows (opened r l) x (count_of r) ≡ false
-  not_after_new e = ⊎_elim
-      (λ q. let z : x ≡ 0 = eqb-true x 0 (not-false (eqb x 0) q) in
-      false_unless _ (λ t. ((follows_is (opened r l) fresh_lawful x (count_of r) fresh_counts).0 t).1 (rw z (first_above (opened r l) fresh_lawful (count_of r) (omega arith) fresh_counts))))
-      (λ q. absurd (both_ways _ q first_open))
-      (and_cases (not (eqb x 0)) (is_open r 0) e)
+  not_after_new e = false_from_ne_true _ (λ t.
+      let o = first_open in
+      let z : x ≡ 0 = grind (arith, nat_tests) in
+      ((follows_is (opened r l) fresh_lawful x (count_of r) fresh_counts).0 t).1 (rw z (first_above (opened r l) fresh_lawful (count_of r) (omega arith) fresh_counts)))
 
-  leads_none : (a : Axis) → grows r a x ≡ false → leads (opened r l) a x (count_of r) ≡ false
+  pub leads_new : (a : Axis) → grows r a x ≡ false → leads (opened r l) a x (count_of r) ≡ false
   unfolding leads grows
-  leads_none Itself e = apart
-  leads_none Child e = and_left (descends (opened r l) x (count_of r)) _ (not_below_new e)
-  leads_none Parent e = and_left (descends (opened r l) (count_of r) x) _ (none_after _)
-  leads_none Descendant e = not_below_new e
-  leads_none Ancestor e = none_after _
-  leads_none DescendantOrSelf e = or_from (eqb x (count_of r)) _ apart (not_below_new e)
-  leads_none AncestorOrSelf e = or_from (eqb x (count_of r)) _ apart (none_after _)
-  leads_none FollowingSibling e =
+  leads_new Itself e = apart
+  leads_new Child e = and_left (descends (opened r l) x (count_of r)) _ (not_below_new e)
+  leads_new Parent e = and_left (descends (opened r l) (count_of r) x) _ (none_after _)
+  leads_new Descendant e = not_below_new e
+  leads_new Ancestor e = none_after _
+  leads_new DescendantOrSelf e = or_from (eqb x (count_of r)) _ apart (not_below_new e)
+  leads_new AncestorOrSelf e = or_from (eqb x (count_of r)) _ apart (none_after _)
+  leads_new FollowingSibling e =
       and_left (same_rank (parent_of (opened r l) (count_of r)) (parent_of (opened r l) x)) _
-      (no_sibling_new (parent_of (opened r l) (count_of r)) (parent_of (opened r l) x) refl (ap (is_open_at r) (parent_old r l x h) ∙ e))
-  leads_none PrecedingSibling e = and_right (same_rank (parent_of (opened r l) x) (parent_of (opened r l) (count_of r))) _ (le-ltb (count_of r) x (omega arith))
-  leads_none Following e = not_after_new e
-  leads_none Preceding e = none_after _
-
-pub leads_new : (r : Receipt) (l : ℕ) → Lawful r → opening_fault l r ≡ None → (a : Axis) (x : ℕ) → x < count_of r → grows r a x ≡ false → leads (opened r l) a x (count_of r) ≡ false
-leads_new r l w f a x h e = leads_none r l w f x h a e
+      (no_sibling_new (parent_of (opened r l) x) (ap (is_open_at r) (parent_old r l x h) ∙ e))
+  leads_new PrecedingSibling e = and_right (same_rank (parent_of (opened r l) x) (parent_of (opened r l) (count_of r))) _ (le-ltb (count_of r) x (omega arith))
+  leads_new Following e = not_after_new e
+  leads_new Preceding e = none_after _

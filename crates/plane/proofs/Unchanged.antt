@@ -1,5 +1,5 @@
 -- What two receipts have to agree on for an axis to lead alike on both.
-use Rattle.std.proofs.Common.{◌≡◌, ℕ, zero, suc, ◌+◌, ◌-◌, Bool, ◌&&◌, ◌||◌, eqb, ltb, Some, None, Option, refl, ap, ◌∙◌}
+use Rattle.std.proofs.Common.{◌≡◌, ℕ, zero, suc, ◌+◌, ◌-◌, Bool, ◌||◌, eqb, Some, None, Option, refl, ap}
 use Rattle.model.specs.declared.axis.Axis.{Axis}
 use Rattle.model.specs.declared.axis.Axis.TheVariants.{Itself, Child, Parent, Descendant, Ancestor, DescendantOrSelf, AncestorOrSelf, FollowingSibling, PrecedingSibling, Following, Preceding}
 use Rattle.model.specs.Receipt.{Receipt, count_of, level_at, parent_of, closed}
@@ -56,7 +56,7 @@ agree_closed r x y =
     record {
       here = refl;
       there = refl;
-      below = ap (λ p. ltb x y && ltb p (post (closed r) x)) b ∙ ap (λ p. ltb x y && ltb (post r y) p) a;
+      below = cc;
       later = refl;
-      following = ap (λ p. ltb x y && ltb p (post (closed r) y)) a ∙ ap (λ p. ltb x y && ltb (post r x) p) b;
+      following = cc;
     }
