@@ -10,7 +10,7 @@ use Rattle.table.proofs.Made.{holds}
 use Rattle.table.proofs.WholeTables.{whole_is_reading}
 use Rattle.query.specs.declared.QueryFault.{QueryFault}
 use Rattle.query.specs.declared.QuerySize.{QuerySize}
-use Rattle.query.specs.Answers.{Accepted, meaning}
+use Rattle.query.specs.Answers.{Answered, meaning}
 use Rattle.query.specs.Compiled.{Compiled, CompiledAs, ReadsAsWritten}
 use Rattle.query.proofs.Exact.{one_compiled}
 use Rattle.query.proofs.Known.{path_known}
@@ -22,14 +22,14 @@ past n m old new h e =
     let split : (ps : List Part) → drop m ps ≡ drop (m - n) (drop n ps) = λ ps. ap (λ (i : ℕ). drop i ps) (sym k) ∙ sym (drop-drop (m - n) n ps) in
     split new ∙ ap (drop (m - n)) e ∙ sym (split old)
 
-pub compiled : (t : List ℕ) (labels : Labels) → ((n : List ℕ) → InRange (labels n)) → (old new : List Part) (size : QuerySize) → length new ≡ length old → Accepted t labels old new size → Compiled t labels old new size.steps
-compiled t labels ranged old new size n a =
+pub compiled : (t : List ℕ) (labels : Labels) → ((n : List ℕ) → InRange (labels n)) → (old new : List Part) (size : QuerySize) → length new ≡ length old → Answered t labels old new (Ok size) → Compiled t labels old new size.steps
+compiled t labels ranged old new size n (a, named) =
     let f = a.fits in
-    let e = whole_is_reading new size.places a.named (omega (arith, a.few, a.length_is, f.room)) ∙ a.holds in
+    let e = whole_is_reading new size.places named (omega (arith, a.few, a.length_is, f.room)) ∙ a.holds in
     record {
       fits = f;
       length_is = a.length_is;
-      holds = holds new (meaning labels f.tree) e f.short (path_known labels ranged f.tree [] f.known) (omega (arith, a.named, a.few, a.length_is));
+      holds = holds new (meaning labels f.tree) e f.short (path_known labels ranged f.tree [] f.known) (omega (arith, named, a.few, a.length_is));
       kept = past size.places (places size.steps) old new a.few a.kept;
     }
 

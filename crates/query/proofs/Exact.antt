@@ -95,7 +95,7 @@ one_judgement t labels n (Err f) (Ok m) x y = absurd (fitting_is_accepted t labe
 one_judgement t labels n (Err f) (Err f') x y = ap Err (one_fault t labels n f f' x y)
 
 answered_judged : (t : List ℕ) (labels : Labels) (old new : List Part) (r : Result QuerySize QueryFault) → Answered t labels old new r → Judged t labels (length old) (steps_of r)
-answered_judged t labels old new (Ok size) a = (a.fits, a.length_is)
+answered_judged t labels old new (Ok size) a = (a.0.fits, a.0.length_is)
 answered_judged t labels old new (Err f) a = a.1
 
 compiled_judged : (t : List ℕ) (labels : Labels) (old new : List Part) (r : Result ℕ QueryFault) → CompiledAs t labels old new r → Judged t labels (length old) r

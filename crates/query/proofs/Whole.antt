@@ -23,7 +23,7 @@ use Rattle.table.specs.Whole.{whole_reading}
 use Rattle.table.proofs.Pieces.{piece_stays}
 use Rattle.table.proofs.Whole.{named_last, named_last_place}
 use Rattle.table.proofs.WholeTables.{whole_is_reading}
-use Rattle.query.specs.Answers.{Sized, Sound, Accepted, Refused, deep_place, unknown_left, meaning, length_of}
+use Rattle.query.specs.Answers.{Sized, Sound, Answered, Refused, deep_place, unknown_left, meaning, length_of}
 use Rattle.query.specs.Limits.{Tree, Limited, Copied}
 use Rattle.reader.proofs.Moves.{Not as IsNot}
 use Rattle.reader.proofs.Compose.{ParsedSpine}
@@ -157,21 +157,20 @@ module _ (labels : Labels) (tree : PathTree) (old new : List Part) (d : Draft) (
   pub kept : drop n new ≡ drop n old
   kept = ap (drop n) c ∙ drop-set-lt n mid 0 _ (omega (arith, b.more)) ∙ drop-append-drop n old front n (omega arith) refl
 
-pub accepted : (t : List ℕ) (labels : Labels) (old new : List Part) (d : Draft) → Sized t → Tree t labels started d → Limited t d (length old) (Ok tt) → Copied (written d) old new → Accepted t labels old new (record { steps = d.count; places = used d })
+pub accepted : (t : List ℕ) (labels : Labels) (old new : List Part) (d : Draft) → Sized t → Tree t labels started d → Limited t d (length old) (Ok tt) → Copied (written d) old new → Answered t labels old new (Ok (record { steps = d.count; places = used d }))
 accepted t labels old new d s k l c =
     let f = facts t labels d k in
     let h = short labels k.tree d f l.1 in
     let b = f.built h in
     let e = f.exact h in
     let r = room t labels (length old) d k l in
-    record {
+    (record {
       fits = record { tree = k.tree; sound = sound t labels d s k l.0; short = h; known = sym f.unknown ∙ l.2; room = omega (arith, e, l.3) };
       length_is = e;
       few = omega (arith, b.most, e);
-      named = names_last labels k.tree old new d b r.room c;
       holds = holds labels k.tree old new d b r.room c;
       kept = kept labels k.tree old new d b r.room c;
-    }
+    }, names_last labels k.tree old new d b r.room c)
 
 pub from_start : (t : List ℕ) (labels : Labels) (d e : Draft) → d ≡ started → Tree t labels d e → Tree t labels started e
 from_start t labels d e q k = record { tree = k.tree; reads = k.reads; made = k.made ∙ ap (spine_drafted labels k.tree []) q }

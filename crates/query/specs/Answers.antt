@@ -91,12 +91,11 @@ pub record Fits (t : List ℕ) (labels : Labels) (n : ℕ) : Type 0 where
   pub known : unknown_left labels tree ≡ None
   pub room : places (length_of labels tree) ≤ n
 
--- The text fits, and its size is told: its length, and in how many first places of the table its query stands. The first of them names the last, and past them the table is as it was.
+-- The text fits, and its size is told: its length, and in how many first places of the table its query stands. Past them the table is as it was.
 pub record Accepted (t : List ℕ) (labels : Labels) (old new : List Part) (size : QuerySize) : Type 0 where
   pub fits : Fits t labels (length old)
   pub length_is : size.steps ≡ length_of labels fits.tree
   pub few : size.places ≤ places size.steps
-  pub named : parts_in new ≡ size.places
   pub holds : whole_reading (take size.places new) ≡ meaning labels fits.tree
   pub kept : drop size.places new ≡ drop size.places old
 
@@ -110,9 +109,9 @@ Refused t labels n TooLong = (tree : PathTree) × Sound t tree × (most_length <
 Refused t labels n (UnknownName p) = (tree : PathTree) × Sound t tree × (length_of labels tree ≤ most_length) × ((left : ℕ) × (unknown_left labels tree ≡ Some left) × (p ≡ length t - left))
 Refused t labels n ShortTable = (tree : PathTree) × Sound t tree × (length_of labels tree ≤ most_length) × (unknown_left labels tree ≡ None) × (n < places (length_of labels tree))
 
--- The answer to a text: its size, or the first fault that applies, and then the table is as it was.
+-- The answer to a text: its size, and then the part in the first place names the last; or the first fault that applies, and then the table is as it was.
 abbrev pub Answered : List ℕ → Labels → List Part → List Part → Result QuerySize QueryFault → Type 0
-Answered t labels old new (Ok size) = Accepted t labels old new size
+Answered t labels old new (Ok size) = Accepted t labels old new size × (parts_in new ≡ size.places)
 Answered t labels old new (Err f) = (new ≡ old) × Refused t labels (length old) f
 
 -- An answer without the places: they follow from the table.
