@@ -6,7 +6,7 @@ use Rattle.std.proofs.lemmas.List.Elements.{filter-append}
 use Rattle.std.proofs.ByRecursion.{all-has, All-weaker}
 use Rattle.std.proofs.lemmas.List.{map-append}
 use Rattle.std.proofs.lemmas.List.Sums.{sum_by-cons, length-filter}
-use Rattle.std.proofs.lemmas.Bool.{ltb-true, and_parts, false≢true, true≢false}
+use Rattle.std.proofs.lemmas.Bool.{ltb-true, and_parts, false≢true}
 use Rattle.model.specs.declared.entry.Certainty.{Certainty}
 use Rattle.model.specs.declared.entry.Certainty.TheVariants.{Sure, Undecided}
 use Rattle.model.specs.declared.entry.Entry.{Entry}
@@ -17,28 +17,23 @@ use Rattle.model.specs.Verdict.{plainly, three, Three, is_out, undecided, is_in,
 use Rattle.model.specs.Show.{if_any, entry_for, entries, is_sure, selected_in, selected_ranks}
 use Rattle.model.proofs.Listed.{listed_through, listed_all, listed_has}
 use Rattle.verdicts.specs.Agree.{ranks_selected, ShowAndAuditAgree}
-use Rattle.verdicts.proofs.Threes.{Kept, kept_in, kept_out, told_in, told_out}
+use Rattle.verdicts.proofs.Threes.{Kept}
 use Rattle.verdicts.proofs.Standing.{standing_told}
 
 -- What holds at one rank, by its verdict and whether it is selected.
 ranks_at : (v : Three) (y : ℕ) (b : Bool) → Kept v (plainly three b) → ranks_selected (if_any (entry_for v y b)) ≡ if_any (cond b (Some y) None)
-ranks_at is_out y true k = absurd (true≢false (told_out true (kept_out k refl)))
-ranks_at is_out y false k = refl
-ranks_at undecided y true k = refl
-ranks_at undecided y false k = refl
-ranks_at is_in y true k = refl
-ranks_at is_in y false k = absurd (false≢true (told_in false (kept_in k refl)))
+ranks_at v y b k = grind arith
 
 abbrev SureSelected : Entry → Type 0
 SureSelected e = e.certainty ≡ Sure → e.selected ≡ true
 
 sure_at : (v : Three) (y : ℕ) (b : Bool) → Kept v (plainly three b) → All SureSelected (if_any (entry_for v y b))
 sure_at is_out y b k = tt
-sure_at undecided y b k = (λ e. let z : ◌≡◌ {A = ℕ} 0 1 = cc in absurd (omega arith), tt)
-sure_at is_in y b k = (λ e. told_in b (kept_in k refl), tt)
+sure_at undecided y b k = (λ e. cc, tt)
+sure_at is_in y b k = (λ e. grind arith, tt)
 
 entry_at : (v : Three) (y : ℕ) (b : Bool) → Kept v (plainly three b) → b ≡ true → (e : Entry) × (entry_for v y b ≡ Some e) × (e.rank ≡ y) × (e.selected ≡ true)
-entry_at is_out y b k e = absurd (false≢true (sym (told_out b (kept_out k refl)) ∙ e))
+entry_at is_out y b k e = absurd (grind arith)
 entry_at undecided y b k e = (record { rank = y; selected = b; certainty = Undecided }, refl, refl, e)
 entry_at is_in y b k e = (record { rank = y; selected = b; certainty = Sure }, refl, refl, e)
 
