@@ -1,12 +1,12 @@
 -- A show and an audit agree, since three verdicts decide only what the selection says.
-use Rattle.std.proofs.Common.{◌≡◌, ℕ, ◌*◌, ◌<◌, ◌≤◌, Bool, true, false, cond, ltb, List, [], ◌∷◌, ◌++◌, map, length, Some, None, count_by, filter, sym, refl, ap, ◌∙◌, arith}
+use Rattle.std.proofs.Common.{◌≡◌, ℕ, ◌*◌, ◌<◌, ◌≤◌, Bool, true, cond, ltb, List, [], ◌∷◌, ◌++◌, map, length, Some, None, count_by, filter, sym, refl, ap, ◌∙◌, arith}
 use lib.ListN.{length-map}
 use Rattle.std.specs.List.{ContainsAt as Has, AllByRecursion as All}
 use Rattle.std.proofs.lemmas.List.Elements.{filter-append}
 use Rattle.std.proofs.ByRecursion.{all-has, All-weaker}
 use Rattle.std.proofs.lemmas.List.{map-append}
 use Rattle.std.proofs.lemmas.List.Sums.{sum_by-cons, length-filter}
-use Rattle.std.proofs.lemmas.Bool.{ltb-true, and_parts, false≢true}
+use Rattle.std.proofs.lemmas.Bool.{ltb-true, and_parts}
 use Rattle.model.specs.declared.entry.Certainty.{Certainty}
 use Rattle.model.specs.declared.entry.Certainty.TheVariants.{Sure, Undecided}
 use Rattle.model.specs.declared.entry.Entry.{Entry}
@@ -57,8 +57,7 @@ sure_selected r q =
     listed_all SureSelected (λ y. entry_for (standing r q y) y (selects r q y)) (count_of r) (λ y h. sure_at (standing r q y) y (selects r q y) (standing_told r q y h))
 
 is_sure_lem : (c : Certainty) → is_sure c ≡ true → c ≡ Sure
-is_sure_lem Sure e = refl
-is_sure_lem Undecided e = absurd (false≢true e)
+is_sure_lem c e = grind arith
 
 -- What passes p passes q, so no more pass p than q.
 count_at_most : {X : Type 0} (p q : X → Bool) (xs : List X) → All (λ x. p x ≡ true → q x ≡ true) xs → count_by p xs ≤ count_by q xs
@@ -71,9 +70,7 @@ count_at_most p q (x ∷ xs) h =
     omega arith
   where
     one : (s t : Bool) → (s ≡ true → t ≡ true) → cond s 1 0 ≤ cond t 1 0
-    one true true g = omega arith
-    one true false g = absurd (false≢true (g refl))
-    one false t g = omega arith
+    one s t g = grind arith
 
 selected_present : (r : Receipt) (q : Path) (y : ℕ) → selects r q y ≡ true → y < count_of r
 unfolding selects

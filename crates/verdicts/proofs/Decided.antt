@@ -1,9 +1,8 @@
 -- Where no axis of a formula may grow, its verdict is decided.
-use Rattle.std.proofs.Common.{◌≡◌, ℕ, ◌<◌, true, false, arith}
+use Rattle.std.proofs.Common.{◌≡◌, ℕ, ◌<◌, true, false, ◌∙◌, arith}
 use Rattle.std.specs.Prelude.{◌≢◌}
 use Rattle.std.proofs.lemmas.Bool.{and_parts}
 use Rattle.model.specs.declared.axis.Axis.{Axis}
-use Rattle.model.specs.declared.axis.Axis.TheVariants.{Itself, Child, Parent, Descendant, Ancestor, DescendantOrSelf, AncestorOrSelf, FollowingSibling, PrecedingSibling, Following, Preceding}
 use Rattle.model.specs.Receipt.{Receipt, count_of}
 use Rattle.model.specs.Axes.{leads, grows, inverse, is_forward, is_backward}
 use Rattle.model.specs.Query.{Path, last, then, Step, plain, filtered, Filter, holds, both, either, negated, axis_of}
@@ -63,17 +62,10 @@ module _ (P : Axis → Type 0) (backward : (a : Axis) → is_backward a ≡ true
     along_filter (negated f) e = along_filter f e
 
   inverse_backward : (a : Axis) → is_forward a ≡ true → P (inverse a)
-  inverse_backward Itself e = backward Itself e
-  inverse_backward Child e = backward Parent e
-  inverse_backward Parent e = backward Child e
-  inverse_backward Descendant e = backward Ancestor e
-  inverse_backward Ancestor e = backward Descendant e
-  inverse_backward DescendantOrSelf e = backward AncestorOrSelf e
-  inverse_backward AncestorOrSelf e = backward DescendantOrSelf e
-  inverse_backward FollowingSibling e = backward PrecedingSibling e
-  inverse_backward PrecedingSibling e = backward FollowingSibling e
-  inverse_backward Following e = backward Preceding e
-  inverse_backward Preceding e = backward Following e
+  inverse_backward a e = backward (inverse a) (turned a ∙ e)
+    where
+      turned : (b : Axis) → is_backward (inverse b) ≡ is_forward b
+      turned b = grind arith
 
   back_step : (s : Step) (before : Formula) → forward_step s ≡ true → EachAxis P before → EachAxis P (step_from before s)
   back_step (plain a t) before e b = (record {}, (inverse_backward a e, b))

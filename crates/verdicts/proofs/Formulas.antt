@@ -1,5 +1,6 @@
 -- The formula of a query, asked for yes or no, is the selection.
 use Rattle.std.proofs.Common.{◌≡◌, ℕ, zero, suc, ◌<◌, Bool, true, false, cond, not, ◌&&◌, ◌||◌, eqb, sym, refl, ap, ◌∙◌, arith}
+use Rattle.std.proofs.Math.Bool.{and_assoc, and_comm}
 use Rattle.std.proofs.lemmas.Bool.{lt-ltb}
 use Rattle.model.specs.declared.axis.Axis.{Axis}
 use Rattle.model.specs.Receipt.{Receipt, count_of}
@@ -11,16 +12,6 @@ use Rattle.plane.proofs.Steady.{leads_inverse}
 use Rattle.verdicts.specs.Laws.{FormulaIsSelection}
 use Rattle.verdicts.proofs.SomeBelow.{some_cong, some_alone, some_swap}
 
-and_comm : (a b : Bool) → (a && b) ≡ (b && a)
-and_comm true true = refl
-and_comm true false = refl
-and_comm false true = refl
-and_comm false false = refl
-
-and_assoc : (a b c : Bool) → ((a && b) && c) ≡ (a && (b && c))
-and_assoc true b c = refl
-and_assoc false b c = refl
-
 -- The `or` of yes and no over some ranks asks whether one of them passes.
 or_over_lem : (p f : ℕ → Bool) (n : ℕ) → or_over yes_no p f n ≡ some_below (λ x. p x && f x) n
 unfolding or_over some_below
@@ -28,16 +19,13 @@ or_over_lem p f zero = refl
 or_over_lem p f (suc n) = by (p n) (f n) (or_over_lem p f n)
   where
     by : (b c : Bool) {s t : Bool} → s ≡ t → cond b (c || s) s ≡ ((b && c) || t)
-    by true c e = ap (λ s. c || s) e
-    by false c e = e
+    by b c e = grind arith
 
 nothing_unseen : (g b : Bool) → (cond g false false || b) ≡ b
-nothing_unseen true b = refl
-nothing_unseen false b = refl
+nothing_unseen g b = grind arith
 
 plainly_yes : (b : Bool) → plainly yes_no b ≡ b
-plainly_yes true = refl
-plainly_yes false = refl
+plainly_yes b = grind arith
 
 module _ (r : Receipt) where
   abbrev says : Formula → Set
