@@ -5,7 +5,7 @@ use Rattle.model.specs.Places.{Texts, BreaksIn}
 use Rattle.grammar.specs.Machines.{Next, dead, go, Out, taken, stops, runs}
 
 pub clash : (n : ℕ) → stops n ≡ taken → ⊥
-clash n e = let z : ◌≡◌ {A = ℕ} 0 1 = cc in omega arith
+clash n e = cc
 
 pub one_place : (L : Texts) (t : List ℕ) (p q : ℕ) → BreaksIn L t p → BreaksIn L t q → q ≡ p
 one_place L t p q d e =

@@ -50,9 +50,6 @@ axis_found Preceding t = refl
 axis_one : (a b : Axis) (s t : List ℕ) → axis_text a ++ s ≡ axis_text b ++ t → (a ≡ b) × (s ≡ t)
 axis_one a b s t e = let k : found a s ≡ found b t = sym (axis_found a s) ∙ ap axis_of_lem e ∙ axis_found b t in (cc, cc)
 
-heads : (x y : ℕ) (xs ys : List ℕ) → x ∷ xs ≡ y ∷ ys → (x ≡ y) × (xs ≡ ys)
-heads x y xs ys e = (cc, cc)
-
 -- the text does not begin with this byte
 not_first : (b : ℕ) (s u : List ℕ) → No s b → s ≡ b ∷ u → ⊥
 not_first b s u n e = false≢true (sym n ∙ ap (λ (x : List ℕ). eqb (get_or x 0 0) b) e ∙ eq-eqb b b refl)
@@ -72,11 +69,8 @@ bytes_one m n (a ∷ u) [] s t hu hv ks kt e = absurd (no_name_byte a t (u ++ s)
 bytes_one m n (a ∷ u) (b ∷ v) s t hu hv ks kt e =
     let p = name_parts m a u hu in
     let q = name_parts n b v hv in
-    let h = heads a b (u ++ s) (v ++ t) e in
-    let r = bytes_one p.1.0 q.1.0 u v s t p.1.1 q.1.1 ks kt h.1 in
-    let x = h.0 in
-    let y = r.0 in
-    (cc, r.1)
+    let r = bytes_one p.1.0 q.1.0 u v s t p.1.1 q.1.1 ks kt (cc) in
+    (cc r.0, r.1)
 
 -- Equal bytes are one name, since there is at most one proof that they are a name.
 same_name : (u v : List ℕ) (e : is_name u ≡ true) (f : is_name v ≡ true) → u ≡ v → name u e ≡ name v f
@@ -84,20 +78,17 @@ same_name u v e f p = subst (λ (w : List ℕ). (h : is_name w ≡ true) → nam
 
 no_star_name : (v s t : List ℕ) → is_name v ≡ true → 42 ∷ s ≡ v ++ t → ⊥
 no_star_name [] s t f e = false≢true f
-no_star_name (b ∷ v) s t f e = false≢true (ap is_letter (heads 42 b s (v ++ t) e).0 ∙ (and_parts (is_letter b) (are_name_bytes 23 v) f).0)
+no_star_name (b ∷ v) s t f e = let l = (and_parts (is_letter b) (are_name_bytes 23 v) f).0 in cc
 
 test_one : (x y : TestTree) (s t : List ℕ) → NoName s → NoName t → test_text x ++ s ≡ test_text y ++ t → (x ≡ y) × (s ≡ t)
-test_one star star s t ks kt e = (refl, (heads 42 42 s t e).1)
+test_one star star s t ks kt e = (refl, cc)
 test_one star (name v f) s t ks kt e = absurd (no_star_name v s t f e)
 test_one (name u e) star s t ks kt h = absurd (no_star_name u t s e (sym h))
 test_one (name [] e) (name v f) s t ks kt h = absurd (false≢true e)
 test_one (name (a ∷ u) e) (name [] f) s t ks kt h = absurd (false≢true f)
 test_one (name (a ∷ u) e) (name (b ∷ v) f) s t ks kt h =
-    let k = heads a b (u ++ s) (v ++ t) h in
-    let r = bytes_one 23 23 u v s t (and_parts (is_letter a) (are_name_bytes 23 u) e).1 (and_parts (is_letter b) (are_name_bytes 23 v) f).1 ks kt k.1 in
-    let x = k.0 in
-    let y = r.0 in
-    (same_name (a ∷ u) (b ∷ v) e f (cc), r.1)
+    let r = bytes_one 23 23 u v s t (and_parts (is_letter a) (are_name_bytes 23 u) e).1 (and_parts (is_letter b) (are_name_bytes 23 v) f).1 ks kt (cc) in
+    (same_name (a ∷ u) (b ∷ v) e f (cc r.0), r.1)
 
 -- What cannot go on with a path; what cannot go on with a chain either.
 record Apart (s : List ℕ) : Type 0 where
@@ -144,8 +135,7 @@ no_path : (p : PathTree) (s u : List ℕ) → axis_of_lem u ≡ lost → path_te
 no_path p s u k e =
     let b = path_begins p s in
     let h : found b.0 b.1 ≡ lost = sym (axis_found b.0 b.1) ∙ ap axis_of_lem (sym b.2 ∙ e) ∙ k in
-    let z : ◌≡◌ {A = ℕ} 0 1 = cc in
-    omega arith
+    cc
 
 apart_bytes : (a b : ℕ) (s t : List ℕ) → eqb a b ≡ false → a ∷ s ≡ b ∷ t → ⊥
 apart_bytes a b s t n e = not_first b (a ∷ s) t n e
@@ -168,7 +158,7 @@ module _ (n : ℕ) (one_chain : OneChain n) where
   inner : (b : ℕ) → ((s : List ℕ) → Closes (b ∷ s)) → (f g : OrChain) (s t : List ℕ) → length (or_text f) < n → (or_text f ++ (b ∷ [])) ++ s ≡ (or_text g ++ (b ∷ [])) ++ t → (f ≡ g) × (s ≡ t)
   inner b c f g s t l e =
       let r = one_chain f g (b ∷ s) (b ∷ t) (c s) (c t) l (sym (closed b (or_text f) s) ∙ e ∙ closed b (or_text g) t) in
-      (r.0, (heads b b s t r.1).1)
+      (r.0, cc r.1)
 
   hold_one : (h k : Hold) (s t : List ℕ) → No s 91 → No t 91 → length (hold_text h) ≤ n → hold_text h ++ s ≡ hold_text k ++ t → (h ≡ k) × (s ≡ t)
   hold_one no_hold no_hold s t ms mt l e = (refl, e)
