@@ -1,5 +1,5 @@
 -- Back: what the machine takes is the text of a tree.
-use Rattle.std.proofs.Common.{◌≡◌, ℕ, zero, suc, Bool, true, false, cond, ◌&&◌, eqb, ◌⊎◌, List, [], ◌∷◌, ◌++◌, codes, sym, refl, ap, ◌∙◌, inl, inr, append_assoc, append-nil, eqb-true}
+use Rattle.std.proofs.Common.{◌≡◌, ℕ, zero, suc, Bool, true, false, cond, eqb, ◌⊎◌, List, [], ◌∷◌, ◌++◌, codes, sym, refl, ◌∙◌, inl, inr, append_assoc, append-nil, eqb-true}
 use Rattle.model.specs.Names.{is_letter, is_name_byte, are_name_bytes}
 use Rattle.model.specs.Grammar.{axis_text, TestTree, star, test_text, PathTree, Atom, ands, and, along, parens, negate, path_text, or_text, atom_text, Query}
 use Rattle.model.specs.Grammar as g

@@ -1,5 +1,5 @@
 -- Chains as they are read: a first part and what follows it, from left to right.
-use Rattle.std.proofs.Common.{◌≡◌, ℕ, List, [], ◌∷◌, ◌++◌, codes, sym, refl, ap, ◌∙◌, append_assoc, append-nil}
+use Rattle.std.proofs.Common.{◌≡◌, ℕ, List, [], ◌∷◌, ◌++◌, codes, sym, refl, ◌∙◌, append_assoc, append-nil}
 use Rattle.model.specs.Grammar.{axis_text, TestTree, test_text, PathTree, StepTree, OrChain, AndChain, Atom, one, slash, bare, ands, or, and, path_text, step_text, or_text, and_text, atom_text}
 use Rattle.model.specs.Grammar as g
 use Rattle.grammar.specs.Joins.{Join, by_and, by_or, Joins, no_join, joined, word, joins_text}
