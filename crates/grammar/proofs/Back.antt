@@ -1,5 +1,5 @@
 -- Back: what the machine takes is the text of a tree.
-use Rattle.std.proofs.Common.{◌≡◌, ℕ, zero, suc, Bool, true, false, cond, ◌&&◌, eqb, ◌⊎◌, List, [], ◌∷◌, ◌++◌, codes, sym, refl, ap, ◌∙◌, inl, inr, append_assoc, append-nil, eqb-true}
+use Rattle.std.proofs.Common.{◌≡◌, ℕ, zero, suc, Bool, true, false, cond, eqb, ◌⊎◌, List, [], ◌∷◌, ◌++◌, codes, sym, refl, ◌∙◌, inl, inr, append_assoc, append-nil, eqb-true}
 use Rattle.model.specs.Names.{is_letter, is_name_byte, are_name_bytes}
 use Rattle.model.specs.Grammar.{axis_text, TestTree, star, test_text, PathTree, Atom, ands, and, along, parens, negate, path_text, or_text, atom_text, Query}
 use Rattle.model.specs.Grammar as g
@@ -70,7 +70,7 @@ path_from : (a : Axis) (fs : List Frame) (t v : List ℕ) → t ≡ axis_text a 
 path_from a fs t v e (x, v1, e1, (h, v2, e2, (l, v3, e3, d))) = (
   mk_path (mk_step a x h) l,
   v3,
-  e ∙ ap (λ (y : List ℕ). axis_text a ++ y) (e1 ∙ ap (λ (y : List ℕ). test_text x ++ y) (e2 ∙ ap (λ (y : List ℕ). hold_text h ++ y) e3)) ∙ regroup (axis_text a) (test_text x) (hold_text h) (tail_text l) v3 ∙ sym (ap (λ (y : List ℕ). y ++ v3) (path_is (mk_step a x h) l ∙ ap (λ (y : List ℕ). y ++ tail_text l) (step_is a x h))),
+  cc (regroup (axis_text a) (test_text x) (hold_text h) (tail_text l) v3, path_is (mk_step a x h) l, step_is a x h),
   d,
 )
   where
@@ -80,11 +80,11 @@ path_from a fs t v e (x, v1, e1, (h, v2, e2, (l, v3, e3, d))) = (
 -- the filter that an atom and its joins make, closed by a byte
 shuts : (c : ℕ) (a : Atom) (j : Joins) (t v w : List ℕ) → t ≡ atom_text a ++ v → v ≡ joins_text j ++ (c ∷ w) → t ≡ or_text (mk_ors (ands (g.atom a)) j) ++ (c ∷ w)
 shuts c a j t v w e h =
-    e ∙ ap (λ (x : List ℕ). atom_text a ++ x) h ∙ sym (append_assoc (atom_text a) (joins_text j) (c ∷ w)) ∙ sym (ap (λ (x : List ℕ). x ++ (c ∷ w)) (ors_is (ands (g.atom a)) j))
+    cc (append_assoc (atom_text a) (joins_text j) (c ∷ w), ors_is (ands (g.atom a)) j)
 
 -- a byte, a word and what stood after it
 after : (b c : ℕ) (w : List ℕ) (t v u : List ℕ) → eqb b c ≡ true → t ≡ w ++ v → v ≡ u → b ∷ t ≡ c ∷ (w ++ u)
-after b c w t v u e h k = cons b c t (w ++ u) e (h ∙ ap (λ (y : List ℕ). w ++ y) k)
+after b c w t v u e h k = cons b c t (w ++ u) e (cc)
 
 on_axis_lem : (fs : List Frame) (b : ℕ) (t : List ℕ) → Sound (axis fs) b t (on_axis fs b)
 on_axis_lem fs b t =
@@ -113,7 +113,7 @@ lift_done paren fs b t (go r) s = λ x. let y = s x in (no_join, y.0, y.1, y.2)
 -- a join word, its atom and the joins after it
 rejoin : (w : Join) (a : Atom) (j : Joins) (b : ℕ) (t v v1 z : List ℕ) → eqb b 32 ≡ true → t ≡ word w ++ v → v ≡ atom_text a ++ v1 → v1 ≡ joins_text j ++ z → b ∷ t ≡ joins_text (joined w a j) ++ z
 rejoin w a j b t v v1 z e h k m =
-    cons b 32 _ _ e (h ∙ ap (λ (y : List ℕ). word w ++ y) (k ∙ ap (λ (y : List ℕ). atom_text a ++ y) m ∙ sym (append_assoc (atom_text a) (joins_text j) z)) ∙ sym (append_assoc (word w) (atom_text a ++ joins_text j) z))
+    cc (eqb-true b 32 e, append_assoc (atom_text a) (joins_text j) z, append_assoc (word w) (atom_text a ++ joins_text j) z)
 
 on_done_lem : (fs : List Frame) (b : ℕ) (t : List ℕ) → Sound (done fs) b t (on_done fs b)
 on_done_lem [] b t = tt
@@ -150,7 +150,7 @@ lift_name n fs b t (go r) s = λ x. ([], refl, b ∷ t, refl, s x)
 
 more_name : (n : ℕ) (fs : List Frame) (b : ℕ) (t : List ℕ) → is_name_byte b ≡ true → Sound (name n fs) b t (on_name n fs)
 more_name zero fs b t e = tt
-more_name (suc n) fs b t e = λ x. (b ∷ x.0, ap (λ (v : Bool). v && are_name_bytes n x.0) e ∙ x.1, x.2, ap (λ (y : List ℕ). b ∷ y) x.3, x.4)
+more_name (suc n) fs b t e = λ x. (b ∷ x.0, cc (e, x.1), x.2, cc x.3, x.4)
 
 lift_atom : (fs : List Frame) (b : ℕ) (t : List ℕ) (n : Next State) → Sound (axis fs) b t n → Sound (atom fs) b t n
 lift_atom fs b t dead s = tt
@@ -171,7 +171,7 @@ sound (after_p fs) b t =
     (λ e x. let y = left_lits (codes "eceding") (or_sibling fs) t x in elim y.2.1 [ inl k ↦ (y.2.0, inr (inl (after b 114 (codes "eceding") t y.0 _ e y.1 k)), y.2.2) | inr k ↦ (y.2.0, inr (inr (after b 114 (codes "eceding") t y.0 _ e y.1 k)), y.2.2) ]) tt)
 sound (test fs) b t =
     if (test fs) b t (eqb b 42) (go (held fs)) (cond (is_letter b) (go (name 23 fs)) dead) (λ e x. (star, t, cons b 42 _ _ e refl, x))
-    (if (test fs) b t (is_letter b) (go (name 23 fs)) dead (λ e x. (g.name (b ∷ x.0) (ap (λ (v : Bool). v && are_name_bytes 23 x.0) e ∙ x.1), x.2, ap (λ (y : List ℕ). b ∷ y) x.3, x.4)) tt)
+    (if (test fs) b t (is_letter b) (go (name 23 fs)) dead (λ e x. (g.name (b ∷ x.0) (cc (e, x.1)), x.2, cc x.3, x.4)) tt)
 sound (name n fs) b t = if (name n fs) b t (is_name_byte b) (on_name n fs) (on_held fs b) (more_name n fs b t) (lift_name n fs b t (on_held fs b) (on_held_lem fs b t))
 sound (held fs) b t = on_held_lem fs b t
 sound (step fs) b t = on_step_lem fs b t
@@ -219,4 +219,4 @@ pub is_query_lem : (t : List ℕ) → run begin t ≡ taken → Query t
 is_query_lem t e =
     let z = back t begin e in
     let x = z.2 in
-    (x.0, z.1 ∙ ap (λ (v : List ℕ). 47 ∷ v) (x.2 ∙ ap (λ (v : List ℕ). path_text x.0 ++ v) x.3 ∙ append-nil (path_text x.0)))
+    (x.0, cc (z.1, x.2, x.3, append-nil (path_text x.0)))

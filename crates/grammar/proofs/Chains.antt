@@ -1,5 +1,5 @@
 -- Chains as they are read: a first part and what follows it, from left to right.
-use Rattle.std.proofs.Common.{◌≡◌, ℕ, List, [], ◌∷◌, ◌++◌, codes, sym, refl, ap, ◌∙◌, append_assoc, append-nil}
+use Rattle.std.proofs.Common.{◌≡◌, ℕ, List, [], ◌∷◌, ◌++◌, codes, sym, refl, ◌∙◌, append_assoc, append-nil}
 use Rattle.model.specs.Grammar.{axis_text, TestTree, test_text, PathTree, StepTree, OrChain, AndChain, Atom, one, slash, bare, ands, or, and, path_text, step_text, or_text, and_text, atom_text}
 use Rattle.model.specs.Grammar as g
 use Rattle.grammar.specs.Joins.{Join, by_and, by_or, Joins, no_join, joined, word, joins_text}
@@ -48,10 +48,10 @@ extend_is (or o x) by_and a = sym (append_assoc (or_text o) (codes " or " ++ and
 pub ors_is : (o : OrChain) (j : Joins) → or_text (mk_ors o j) ≡ or_text o ++ joins_text j
 ors_is o no_join = sym (append-nil (or_text o))
 ors_is o (joined w a j) =
-    ors_is (extend o w a) j ∙ ap (λ (x : List ℕ). x ++ joins_text j) (extend_is o w a) ∙ append_assoc (or_text o) (32 ∷ (word w ++ atom_text a)) (joins_text j) ∙ ap (λ (x : List ℕ). or_text o ++ (32 ∷ x)) (append_assoc (word w) (atom_text a) (joins_text j))
+    cc (ors_is (extend o w a) j, extend_is o w a, append_assoc (or_text o) (32 ∷ (word w ++ atom_text a)) (joins_text j), append_assoc (word w) (atom_text a) (joins_text j))
 
 pub step_is : (a : Axis) (x : TestTree) (h : Hold) → step_text (mk_step a x h) ≡ axis_text a ++ (test_text x ++ hold_text h)
-step_is a x no_hold = ap (λ (y : List ℕ). axis_text a ++ y) (sym (append-nil (test_text x)))
+step_is a x no_hold = cc (append-nil (test_text x))
 step_is a x (hold f) = refl
 
 pub path_is : (s : StepTree) (t : Tail) → path_text (mk_path s t) ≡ step_text s ++ tail_text t
@@ -89,4 +89,4 @@ chain_again (ands x) j = ands_again x j
 chain_again (or f x) j = chain_again f (joined by_or (first_of_ands x) (joins_of_ands x j)) ∙ or_again f x j
 
 pub chain_text : (f : OrChain) → or_text f ≡ atom_text (first_of f) ++ joins_text (joins_of f no_join)
-chain_text f = sym (ap or_text (chain_again f no_join)) ∙ ors_is (ands (g.atom (first_of f))) (joins_of f no_join)
+chain_text f = cc (chain_again f no_join, ors_is (ands (g.atom (first_of f))) (joins_of f no_join))

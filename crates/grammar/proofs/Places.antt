@@ -1,10 +1,10 @@
 -- Places: where the machine stops is the place at which the text breaks the grammar.
-use Rattle.std.proofs.Common.{◌≡◌, ℕ, ◌-◌, Bool, cond, ◌⊎◌, List, [], ◌∷◌, ◌++◌, length, codes, sym, refl, ap, ◌∙◌, inl, inr, append-nil}
+use Rattle.std.proofs.Common.{◌≡◌, ℕ, ◌-◌, ◌⊎◌, List, [], ◌∷◌, ◌++◌, length, codes, sym, refl, ap, ◌∙◌, inl, inr, append-nil}
 use Rattle.std.proofs.lemmas.Bool.{eq-eqb}
 use Rattle.model.specs.Grammar.{path_text, Query, Breaks}
-use Rattle.grammar.specs.Machines.{Out, stops, taken, dead, go}
+use Rattle.grammar.specs.Machines.{Out, stops, taken}
 use Rattle.grammar.specs.Machine.{Frame, bracket, paren, State, lit, axis, or_self, or_sibling, after_p, test, name, held, step, done, joint, atom, shut, lits, on, ends, run, begin}
-use Rattle.grammar.proofs.Forward.{go_on, no_more, no_held, no_name, No, NoName, path_runs}
+use Rattle.grammar.proofs.Forward.{no_more, no_held, no_name, No, NoName, path_runs}
 use Rattle.grammar.proofs.Back.{is_query_lem}
 use Rattle.grammar.proofs.Stopping.{breaks_in, one_place}
 use Rattle.grammar.specs.Theorems.{QueryOrOnePlace}
@@ -38,7 +38,7 @@ shut_ends (paren ∷ fs) = done_ends fs
 
 lits_run : (w : List ℕ) (s : State) (t : List ℕ) → run (lits w s) (w ++ t) ≡ run s t
 lits_run [] s t = refl
-lits_run (c ∷ w) s t = ap (λ (v : Bool). go_on (w ++ t) (cond v (go (lits w s)) dead)) (eq-eqb c c refl) ∙ lits_run w s t
+lits_run (c ∷ w) s t = cc (eq-eqb c c refl, lits_run w s t)
 
 ends_so : (s : State) → (u : List ℕ) × (run s u ≡ taken)
 ends_so (lit c w s) = let z = ends_so s in ((c ∷ w) ++ z.0, lits_run (c ∷ w) s z.0 ∙ z.1)

@@ -1,11 +1,11 @@
 -- Stopping: where a machine stops is the place at which the bytes break the set of texts that it takes.
-use Rattle.std.proofs.Common.{◌≡◌, ℕ, zero, suc, ◌+◌, ◌-◌, ◌<◌, ◌≤◌, Bool, true, false, cond, List, [], ◌∷◌, ◌++◌, length, take, sym, refl, ap, ◌∙◌, subst, ⊎_elim, add-one, arith}
+use Rattle.std.proofs.Common.{◌≡◌, ℕ, zero, suc, ◌+◌, ◌-◌, ◌<◌, ◌≤◌, Bool, cond, List, [], ◌∷◌, ◌++◌, length, take, sym, refl, ap, ◌∙◌, ⊎_elim, add-one, arith}
 use Rattle.std.proofs.lemmas.Bool.{cases_lt}
 use Rattle.model.specs.Places.{Texts, BreaksIn}
 use Rattle.grammar.specs.Machines.{Next, dead, go, Out, taken, stops, runs}
 
 pub clash : (n : ℕ) → stops n ≡ taken → ⊥
-clash n e = let z : ◌≡◌ {A = ℕ} 0 1 = cc in omega arith
+clash n e = cc
 
 pub one_place : (L : Texts) (t : List ℕ) (p q : ℕ) → BreaksIn L t p → BreaksIn L t q → q ≡ p
 one_place L t p q d e =
@@ -14,8 +14,7 @@ one_place L t p q d e =
     (cases_lt p q)
 
 left_at_end : (v : Bool) (left : ℕ) → cond v taken (stops 0) ≡ stops left → left ≡ 0
-left_at_end true left e = absurd (clash left (sym e))
-left_at_end false left e = cc
+left_at_end v left e = grind arith
 
 -- what follows a byte
 abbrev goes_on : {S : Type 0} → (S → ℕ → Next S) → (S → Bool) → List ℕ → Next S → Out
@@ -46,12 +45,12 @@ module _ {S : Type 0} (on : S → ℕ → Next S) (ends : S → Bool) (ends_so :
   nearer : (s r : S) (b : ℕ) (t : List ℕ) → on s b ≡ go r → Viable on ends s (b ∷ t) → Viable on ends r t
   nearer s r b t e (u, g) = (u, sym (ap (goes_on on ends (t ++ u)) e) ∙ g)
 
+  first : (s : S) (t : List ℕ) (q : ℕ) → q ≤ 0 → Viable on ends s (take q t)
+  first s t zero h = ends_so s
+  first s t (suc q) h = absurd (omega arith)
+
   stop_first : (s : S) (b : ℕ) (t : List ℕ) → on s b ≡ dead → Stop on ends s (b ∷ t) 0
-  stop_first s b t e = record { before = first; at = λ h v. clash _ (sym (ap (goes_on on ends (take 0 t ++ v.0)) e) ∙ v.1) }
-    where
-      first : (q : ℕ) → q ≤ 0 → Viable on ends s (take q (b ∷ t))
-      first zero h = ends_so s
-      first (suc q) h = absurd (omega arith)
+  stop_first s b t e = record { before = first s (b ∷ t); at = λ h v. clash _ (sym (ap (goes_on on ends (take 0 t ++ v.0)) e) ∙ v.1) }
 
   stop_next : (s r : S) (b : ℕ) (t : List ℕ) (p : ℕ) → on s b ≡ go r → Stop on ends r t p → Stop on ends s (b ∷ t) (suc p)
   stop_next s r b t p e d = record { before = till; at = λ h v. d.at (omega arith) (nearer s r b (take (suc p) t) e v) }
@@ -61,14 +60,8 @@ module _ {S : Type 0} (on : S → ℕ → Next S) (ends : S → Bool) (ends_so :
       till (suc q) h = further s r b (take q t) e (d.before q (omega arith))
 
   stop : (t : List ℕ) (s : S) (p left : ℕ) → length t ≡ p + left → runs on ends s t ≡ stops left → Stop on ends s t p
-  stop [] s p left h e = subst (λ (x : ℕ). Stop on ends s [] x) zero_p (record { before = first; at = λ k v. omega arith })
-    where
-      zero_p : 0 ≡ p
-      zero_p = omega arith
-
-      first : (q : ℕ) → q ≤ 0 → Viable on ends s (take q [])
-      first zero h = ends_so s
-      first (suc q) h = absurd (omega arith)
+  stop [] s zero left h e = record { before = first s []; at = λ k v. omega arith }
+  stop [] s (suc p) left h e = absurd (omega arith)
   stop (b ∷ t) s p left h e = by (on s b) refl p h (stop t) e
     where
       by : (n : Next S) → on s b ≡ n → (p : ℕ) → suc (length t) ≡ p + left → ((r : S) (p l : ℕ) → length t ≡ p + l → runs on ends r t ≡ stops l → Stop on ends r t p) → goes_on on ends t n ≡ stops left → Stop on ends s (b ∷ t) p
@@ -88,6 +81,3 @@ module _ {S : Type 0} (on : S → ℕ → Next S) (ends : S → Bool) (ends_so :
         at = λ h v. d.at h (v.0, rw (← add-one (length t - left)) (complete _ v.1));
         whole = λ q. clash left (sym e ∙ complete t q);
       }
-
-  pub left_within : (t : List ℕ) (s : S) (left : ℕ) → runs on ends s t ≡ stops left → left ≤ length t
-  left_within t s left e = left_le t s left e

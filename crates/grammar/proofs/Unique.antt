@@ -1,5 +1,5 @@
 -- Unique: a text has at most one tree. A part is read off the front of a text, and what follows says where it ends.
-use Rattle.std.proofs.Common.{◌≡◌, ℕ, zero, suc, ◌<◌, ◌≤◌, true, false, cond, eqb, List, [], ◌∷◌, ◌++◌, length, get_or, drop, sym, refl, ap, ◌∙◌, subst, append_assoc, append-nil, arith, length-append}
+use Rattle.std.proofs.Common.{◌≡◌, ℕ, zero, suc, ◌<◌, ◌≤◌, true, cond, eqb, List, [], ◌∷◌, ◌++◌, length, drop, sym, refl, ap, ◌∙◌, subst, append_assoc, append-nil, arith, length-append}
 use mathlib.Core.Bool.{Bool-set}
 use Rattle.std.proofs.lemmas.Bool.{and_parts, false≢true, eq-eqb}
 use Rattle.model.specs.Names.{is_letter, is_name_byte, are_name_bytes, is_name}
@@ -50,12 +50,10 @@ axis_found Preceding t = refl
 axis_one : (a b : Axis) (s t : List ℕ) → axis_text a ++ s ≡ axis_text b ++ t → (a ≡ b) × (s ≡ t)
 axis_one a b s t e = let k : found a s ≡ found b t = sym (axis_found a s) ∙ ap axis_of_lem e ∙ axis_found b t in (cc, cc)
 
-heads : (x y : ℕ) (xs ys : List ℕ) → x ∷ xs ≡ y ∷ ys → (x ≡ y) × (xs ≡ ys)
-heads x y xs ys e = (cc, cc)
-
 -- the text does not begin with this byte
 not_first : (b : ℕ) (s u : List ℕ) → No s b → s ≡ b ∷ u → ⊥
-not_first b s u n e = false≢true (sym n ∙ ap (λ (x : List ℕ). eqb (get_or x 0 0) b) e ∙ eq-eqb b b refl)
+not_first b [] u n e = cc
+not_first b (c ∷ s) u n e = cc (eq-eqb b b refl)
 
 -- Names and tests.
 name_parts : (n b : ℕ) (u : List ℕ) → are_name_bytes n (b ∷ u) ≡ true → (is_name_byte b ≡ true) × ((k : ℕ) × (are_name_bytes k u ≡ true))
@@ -63,7 +61,8 @@ name_parts zero b u e = absurd (false≢true e)
 name_parts (suc n) b u e = let p = and_parts (is_name_byte b) (are_name_bytes n u) e in (p.0, (n, p.1))
 
 no_name_byte : (b : ℕ) (s u : List ℕ) → NoName s → is_name_byte b ≡ true → s ≡ b ∷ u → ⊥
-no_name_byte b s u n k e = false≢true (sym n ∙ ap (λ (x : List ℕ). is_name_byte (get_or x 0 0)) e ∙ k)
+no_name_byte b [] u n k e = cc
+no_name_byte b (c ∷ s) u n k e = cc
 
 bytes_one : (m n : ℕ) (u v s t : List ℕ) → are_name_bytes m u ≡ true → are_name_bytes n v ≡ true → NoName s → NoName t → u ++ s ≡ v ++ t → (u ≡ v) × (s ≡ t)
 bytes_one m n [] [] s t hu hv ks kt e = (refl, e)
@@ -72,11 +71,8 @@ bytes_one m n (a ∷ u) [] s t hu hv ks kt e = absurd (no_name_byte a t (u ++ s)
 bytes_one m n (a ∷ u) (b ∷ v) s t hu hv ks kt e =
     let p = name_parts m a u hu in
     let q = name_parts n b v hv in
-    let h = heads a b (u ++ s) (v ++ t) e in
-    let r = bytes_one p.1.0 q.1.0 u v s t p.1.1 q.1.1 ks kt h.1 in
-    let x = h.0 in
-    let y = r.0 in
-    (cc, r.1)
+    let r = bytes_one p.1.0 q.1.0 u v s t p.1.1 q.1.1 ks kt (cc) in
+    (cc r.0, r.1)
 
 -- Equal bytes are one name, since there is at most one proof that they are a name.
 same_name : (u v : List ℕ) (e : is_name u ≡ true) (f : is_name v ≡ true) → u ≡ v → name u e ≡ name v f
@@ -84,20 +80,17 @@ same_name u v e f p = subst (λ (w : List ℕ). (h : is_name w ≡ true) → nam
 
 no_star_name : (v s t : List ℕ) → is_name v ≡ true → 42 ∷ s ≡ v ++ t → ⊥
 no_star_name [] s t f e = false≢true f
-no_star_name (b ∷ v) s t f e = false≢true (ap is_letter (heads 42 b s (v ++ t) e).0 ∙ (and_parts (is_letter b) (are_name_bytes 23 v) f).0)
+no_star_name (b ∷ v) s t f e = let l = (and_parts (is_letter b) (are_name_bytes 23 v) f).0 in cc
 
 test_one : (x y : TestTree) (s t : List ℕ) → NoName s → NoName t → test_text x ++ s ≡ test_text y ++ t → (x ≡ y) × (s ≡ t)
-test_one star star s t ks kt e = (refl, (heads 42 42 s t e).1)
+test_one star star s t ks kt e = (refl, cc)
 test_one star (name v f) s t ks kt e = absurd (no_star_name v s t f e)
 test_one (name u e) star s t ks kt h = absurd (no_star_name u t s e (sym h))
 test_one (name [] e) (name v f) s t ks kt h = absurd (false≢true e)
 test_one (name (a ∷ u) e) (name [] f) s t ks kt h = absurd (false≢true f)
 test_one (name (a ∷ u) e) (name (b ∷ v) f) s t ks kt h =
-    let k = heads a b (u ++ s) (v ++ t) h in
-    let r = bytes_one 23 23 u v s t (and_parts (is_letter a) (are_name_bytes 23 u) e).1 (and_parts (is_letter b) (are_name_bytes 23 v) f).1 ks kt k.1 in
-    let x = k.0 in
-    let y = r.0 in
-    (same_name (a ∷ u) (b ∷ v) e f (cc), r.1)
+    let r = bytes_one 23 23 u v s t (and_parts (is_letter a) (are_name_bytes 23 u) e).1 (and_parts (is_letter b) (are_name_bytes 23 v) f).1 ks kt (cc) in
+    (same_name (a ∷ u) (b ∷ v) e f (cc r.0), r.1)
 
 -- What cannot go on with a path; what cannot go on with a chain either.
 record Apart (s : List ℕ) : Type 0 where
@@ -127,10 +120,7 @@ after_test no_hold s k = k
 after_test (hold f) s k = refl
 
 grouped : (a : Axis) (x : TestTree) (h : Hold) (s : List ℕ) → step_text (mk_step a x h) ++ s ≡ axis_text a ++ (test_text x ++ (hold_text h ++ s))
-grouped a x h s = ap (λ (u : List ℕ). u ++ s) (step_is a x h) ∙ regroup (axis_text a) (test_text x) (hold_text h)
-  where
-    regroup : (u v w : List ℕ) → (u ++ (v ++ w)) ++ s ≡ u ++ (v ++ (w ++ s))
-    regroup u v w = simp append_assoc
+grouped a x h s = rw (step_is a x h) (simp append_assoc)
 
 -- A path begins with an axis, so with neither "(" nor "n".
 path_begins : (p : PathTree) (s : List ℕ) → (a : Axis) × (u : List ℕ) × (path_text p ++ s ≡ axis_text a ++ u)
@@ -143,32 +133,24 @@ path_begins (slash (held a x f) p) s =
 no_path : (p : PathTree) (s u : List ℕ) → axis_of_lem u ≡ lost → path_text p ++ s ≡ u → ⊥
 no_path p s u k e =
     let b = path_begins p s in
-    let h : found b.0 b.1 ≡ lost = sym (axis_found b.0 b.1) ∙ ap axis_of_lem (sym b.2 ∙ e) ∙ k in
-    let z : ◌≡◌ {A = ℕ} 0 1 = cc in
-    omega arith
-
-apart_bytes : (a b : ℕ) (s t : List ℕ) → eqb a b ≡ false → a ∷ s ≡ b ∷ t → ⊥
-apart_bytes a b s t n e = not_first b (a ∷ s) t n e
+    cc (axis_found b.0 b.1, b.2)
 
 word_one : (v w : Join) (s t : List ℕ) → word v ++ s ≡ word w ++ t → (v ≡ w) × (s ≡ t)
 word_one by_and by_and s t e = (refl, ap (drop 4) e)
-word_one by_and by_or s t e = absurd (apart_bytes 97 111 _ _ refl e)
-word_one by_or by_and s t e = absurd (apart_bytes 111 97 _ _ refl e)
+word_one by_and by_or s t e = absurd (not_first 111 _ _ refl e)
+word_one by_or by_and s t e = absurd (not_first 97 _ _ refl e)
 word_one by_or by_or s t e = (refl, ap (drop 3) e)
 
 after_atom : (j : Joins) (s : List ℕ) → Closes s → Apart (joins_text j ++ s)
 after_atom no_join s c = c.apart
 after_atom (joined w a j) s c = record { no_name = refl; no_bracket = refl; no_slash = refl }
 
-joins_assoc : (a : Atom) (j : Joins) (s : List ℕ) → (atom_text a ++ joins_text j) ++ s ≡ atom_text a ++ (joins_text j ++ s)
-joins_assoc a j s = append_assoc (atom_text a) (joins_text j) s
-
 module _ (n : ℕ) (one_chain : OneChain n) where
   -- a chain and the byte that closes it
   inner : (b : ℕ) → ((s : List ℕ) → Closes (b ∷ s)) → (f g : OrChain) (s t : List ℕ) → length (or_text f) < n → (or_text f ++ (b ∷ [])) ++ s ≡ (or_text g ++ (b ∷ [])) ++ t → (f ≡ g) × (s ≡ t)
   inner b c f g s t l e =
       let r = one_chain f g (b ∷ s) (b ∷ t) (c s) (c t) l (sym (closed b (or_text f) s) ∙ e ∙ closed b (or_text g) t) in
-      (r.0, (heads b b s t r.1).1)
+      (r.0, cc r.1)
 
   hold_one : (h k : Hold) (s t : List ℕ) → No s 91 → No t 91 → length (hold_text h) ≤ n → hold_text h ++ s ≡ hold_text k ++ t → (h ≡ k) × (s ≡ t)
   hold_one no_hold no_hold s t ms mt l e = (refl, e)
@@ -186,10 +168,7 @@ module _ (n : ℕ) (one_chain : OneChain n) where
       let d = length-append (axis_text a) (test_text x ++ hold_text h) in
       let z = length-append (test_text x) (hold_text h) in
       let r = hold_one h k s t ms mt (omega arith) q.1 in
-      let i = p.0 in
-      let j = q.0 in
-      let m = r.0 in
-      (cc, r.1)
+      (cc (p.0, q.0, r.0), r.1)
 
   step_one : (x y : StepTree) (s t : List ℕ) → NoName s → NoName t → No s 91 → No t 91 → length (step_text x) ≤ n → step_text x ++ s ≡ step_text y ++ t → (x ≡ y) × (s ≡ t)
   step_one (bare a x) (bare b y) s t = parts_one a b x y no_hold no_hold s t
@@ -210,9 +189,7 @@ module _ (n : ℕ) (one_chain : OneChain n) where
       let c = length-append (step_text x) (47 ∷ path_text p) in
       let r = step_one x y (47 ∷ (path_text p ++ s)) (47 ∷ (path_text q ++ t)) refl refl refl refl (omega arith) (sym (append_assoc (step_text x) (47 ∷ path_text p) s) ∙ e ∙ append_assoc (step_text y) (47 ∷ path_text q) t) in
       let z = path_one p q s t cs ct (omega arith) (ap (drop 1) r.1) in
-      let i = r.0 in
-      let j = z.0 in
-      (cc, z.1)
+      (cc (r.0, z.0), z.1)
 
   atom_one : (a b : Atom) (s t : List ℕ) → Apart s → Apart t → length (atom_text a) ≤ n → atom_text a ++ s ≡ atom_text b ++ t → (a ≡ b) × (s ≡ t)
   atom_one (along p) (along q) s t cs ct l e = let r = path_one p q s t cs ct l e in (ap along r.0, r.1)
@@ -220,8 +197,8 @@ module _ (n : ℕ) (one_chain : OneChain n) where
   atom_one (along p) (negate g) s t cs ct l e = absurd (no_path p s _ refl e)
   atom_one (parens f) (along q) s t cs ct l e = absurd (no_path q t _ refl (sym e))
   atom_one (negate f) (along q) s t cs ct l e = absurd (no_path q t _ refl (sym e))
-  atom_one (parens f) (negate g) s t cs ct l e = absurd (apart_bytes 40 110 _ _ refl e)
-  atom_one (negate f) (parens g) s t cs ct l e = absurd (apart_bytes 110 40 _ _ refl e)
+  atom_one (parens f) (negate g) s t cs ct l e = absurd (not_first 110 _ _ refl e)
+  atom_one (negate f) (parens g) s t cs ct l e = absurd (not_first 40 _ _ refl e)
   atom_one (parens f) (parens g) s t cs ct l e =
       let r = inner 41 paren_closes f g s t (omega (arith, length-append (or_text f) (41 ∷ []))) (ap (drop 1) e) in (ap parens r.0, r.1)
   atom_one (negate f) (negate g) s t cs ct l e =
@@ -234,7 +211,7 @@ module _ (n : ℕ) (one_chain : OneChain n) where
   chain_one : (a b : Atom) (j k : Joins) (s t : List ℕ) → Closes s → Closes t → OneJoins j k s t → length (atom_text a ++ joins_text j) ≤ n → (atom_text a ++ joins_text j) ++ s ≡ (atom_text b ++ joins_text k) ++ t → (a ≡ b) × (j ≡ k) × (s ≡ t)
   chain_one a b j k s t cs ct ih l e =
       let c = length-append (atom_text a) (joins_text j) in
-      let r = atom_one a b (joins_text j ++ s) (joins_text k ++ t) (after_atom j s cs) (after_atom k t ct) (omega arith) (sym (joins_assoc a j s) ∙ e ∙ joins_assoc b k t) in
+      let r = atom_one a b (joins_text j ++ s) (joins_text k ++ t) (after_atom j s cs) (after_atom k t ct) (omega arith) (cc (append_assoc (atom_text a) (joins_text j) s, append_assoc (atom_text b) (joins_text k) t)) in
       let z = ih (omega arith) r.1 in
       (r.0, z.0, z.1)
 
@@ -248,10 +225,7 @@ module _ (n : ℕ) (one_chain : OneChain n) where
       let y = atom_text b ++ joins_text k in
       let r = word_one v w (x ++ s) (y ++ t) (sym (append_assoc (word v) x s) ∙ ap (drop 1) e ∙ append_assoc (word w) y t) in
       let z = chain_one a b j k s t cs ct (joins_one j k s t cs ct) (omega arith) r.1 in
-      let h = r.0 in
-      let i = z.0 in
-      let m = z.1 in
-      (cc, z.2)
+      (cc (r.0, z.0, z.1), z.2)
 
 one_chain : (n : ℕ) → OneChain n
 one_chain zero f g s t cs ct l e = absurd (omega arith)
@@ -259,12 +233,8 @@ one_chain (suc n) f g s t cs ct l e =
     let x = ap length (chain_text f) in
     let j = joins_of f no_join in
     let k = joins_of g no_join in
-    let r = chain_one n (one_chain n) (first_of f) (first_of g) j k s t cs ct (joins_one n (one_chain n) j k s t cs ct) (omega arith) (sym (ap (λ (u : List ℕ). u ++ s) (chain_text f)) ∙ e ∙ ap (λ (u : List ℕ). u ++ t) (chain_text g)) in
-    let y = chain_again f no_join in
-    let z = chain_again g no_join in
-    let h = r.0 in
-    let m = r.1 in
-    (cc, r.2)
+    let r = chain_one n (one_chain n) (first_of f) (first_of g) j k s t cs ct (joins_one n (one_chain n) j k s t cs ct) (omega arith) (cc (chain_text f, chain_text g)) in
+    (cc (chain_again f no_join, chain_again g no_join, r.0, r.1), r.2)
 
 pub unambiguous : Unambiguous
 unambiguous t p q e f =

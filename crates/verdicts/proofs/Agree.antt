@@ -1,12 +1,12 @@
 -- A show and an audit agree, since three verdicts decide only what the selection says.
-use Rattle.std.proofs.Common.{◌≡◌, ℕ, ◌*◌, ◌<◌, ◌≤◌, Bool, true, false, cond, ltb, List, [], ◌∷◌, ◌++◌, map, length, Some, None, count_by, filter, sym, refl, ap, ◌∙◌, arith}
+use Rattle.std.proofs.Common.{◌≡◌, ℕ, ◌*◌, ◌<◌, ◌≤◌, Bool, true, cond, ltb, List, [], ◌∷◌, ◌++◌, map, length, Some, None, count_by, filter, sym, refl, ap, ◌∙◌, arith}
 use lib.ListN.{length-map}
 use Rattle.std.specs.List.{ContainsAt as Has, AllByRecursion as All}
 use Rattle.std.proofs.lemmas.List.Elements.{filter-append}
 use Rattle.std.proofs.ByRecursion.{all-has, All-weaker}
 use Rattle.std.proofs.lemmas.List.{map-append}
 use Rattle.std.proofs.lemmas.List.Sums.{sum_by-cons, length-filter}
-use Rattle.std.proofs.lemmas.Bool.{ltb-true, and_parts, false≢true, true≢false}
+use Rattle.std.proofs.lemmas.Bool.{ltb-true, and_parts}
 use Rattle.model.specs.declared.entry.Certainty.{Certainty}
 use Rattle.model.specs.declared.entry.Certainty.TheVariants.{Sure, Undecided}
 use Rattle.model.specs.declared.entry.Entry.{Entry}
@@ -17,28 +17,23 @@ use Rattle.model.specs.Verdict.{plainly, three, Three, is_out, undecided, is_in,
 use Rattle.model.specs.Show.{if_any, entry_for, entries, is_sure, selected_in, selected_ranks}
 use Rattle.model.proofs.Listed.{listed_through, listed_all, listed_has}
 use Rattle.verdicts.specs.Agree.{ranks_selected, ShowAndAuditAgree}
-use Rattle.verdicts.proofs.Threes.{Kept, kept_in, kept_out, told_in, told_out}
+use Rattle.verdicts.proofs.Threes.{Kept}
 use Rattle.verdicts.proofs.Standing.{standing_told}
 
 -- What holds at one rank, by its verdict and whether it is selected.
 ranks_at : (v : Three) (y : ℕ) (b : Bool) → Kept v (plainly three b) → ranks_selected (if_any (entry_for v y b)) ≡ if_any (cond b (Some y) None)
-ranks_at is_out y true k = absurd (true≢false (told_out true (kept_out k refl)))
-ranks_at is_out y false k = refl
-ranks_at undecided y true k = refl
-ranks_at undecided y false k = refl
-ranks_at is_in y true k = refl
-ranks_at is_in y false k = absurd (false≢true (told_in false (kept_in k refl)))
+ranks_at v y b k = grind arith
 
 abbrev SureSelected : Entry → Type 0
 SureSelected e = e.certainty ≡ Sure → e.selected ≡ true
 
 sure_at : (v : Three) (y : ℕ) (b : Bool) → Kept v (plainly three b) → All SureSelected (if_any (entry_for v y b))
 sure_at is_out y b k = tt
-sure_at undecided y b k = (λ e. let z : ◌≡◌ {A = ℕ} 0 1 = cc in absurd (omega arith), tt)
-sure_at is_in y b k = (λ e. told_in b (kept_in k refl), tt)
+sure_at undecided y b k = (λ e. cc, tt)
+sure_at is_in y b k = (λ e. grind arith, tt)
 
 entry_at : (v : Three) (y : ℕ) (b : Bool) → Kept v (plainly three b) → b ≡ true → (e : Entry) × (entry_for v y b ≡ Some e) × (e.rank ≡ y) × (e.selected ≡ true)
-entry_at is_out y b k e = absurd (false≢true (sym (told_out b (kept_out k refl)) ∙ e))
+entry_at is_out y b k e = absurd (grind arith)
 entry_at undecided y b k e = (record { rank = y; selected = b; certainty = Undecided }, refl, refl, e)
 entry_at is_in y b k e = (record { rank = y; selected = b; certainty = Sure }, refl, refl, e)
 
@@ -62,8 +57,7 @@ sure_selected r q =
     listed_all SureSelected (λ y. entry_for (standing r q y) y (selects r q y)) (count_of r) (λ y h. sure_at (standing r q y) y (selects r q y) (standing_told r q y h))
 
 is_sure_lem : (c : Certainty) → is_sure c ≡ true → c ≡ Sure
-is_sure_lem Sure e = refl
-is_sure_lem Undecided e = absurd (false≢true e)
+is_sure_lem c e = grind arith
 
 -- What passes p passes q, so no more pass p than q.
 count_at_most : {X : Type 0} (p q : X → Bool) (xs : List X) → All (λ x. p x ≡ true → q x ≡ true) xs → count_by p xs ≤ count_by q xs
@@ -76,9 +70,7 @@ count_at_most p q (x ∷ xs) h =
     omega arith
   where
     one : (s t : Bool) → (s ≡ true → t ≡ true) → cond s 1 0 ≤ cond t 1 0
-    one true true g = omega arith
-    one true false g = absurd (false≢true (g refl))
-    one false t g = omega arith
+    one s t g = grind arith
 
 selected_present : (r : Receipt) (q : Path) (y : ℕ) → selects r q y ≡ true → y < count_of r
 unfolding selects

@@ -1,15 +1,14 @@
 -- Where no axis of a formula may grow, its verdict is decided.
-use Rattle.std.proofs.Common.{◌≡◌, ℕ, ◌<◌, true, false, eqb}
+use Rattle.std.proofs.Common.{◌≡◌, ℕ, ◌<◌, true, false, ◌∙◌, arith}
+use Rattle.std.specs.Prelude.{◌≢◌}
 use Rattle.std.proofs.lemmas.Bool.{and_parts}
 use Rattle.model.specs.declared.axis.Axis.{Axis}
-use Rattle.model.specs.declared.axis.Axis.TheVariants.{Itself, Child, Parent, Descendant, Ancestor, DescendantOrSelf, AncestorOrSelf, FollowingSibling, PrecedingSibling, Following, Preceding}
 use Rattle.model.specs.Receipt.{Receipt, count_of}
 use Rattle.model.specs.Axes.{leads, grows, inverse, is_forward, is_backward}
 use Rattle.model.specs.Query.{Path, last, then, Step, plain, filtered, Filter, holds, both, either, negated, axis_of}
-use Rattle.model.specs.Selection.{passes}
-use Rattle.model.specs.Verdict.{Formula, test, first, conj, disj, neg, along, step_here, path_formula, filter_formula, step_from, path_from, query_formula, verdict, three}
+use Rattle.model.specs.Verdict.{Formula, test, first, conj, disj, neg, along, step_here, path_formula, filter_formula, step_from, path_from, query_formula, verdict, undecided, three}
 use Rattle.verdicts.specs.Forward.{backward_path, backward_step, backward_filter, forward_step, forward_path}
-use Rattle.verdicts.proofs.Threes.{Decided, decided_plain, decided_and, decided_or, decided_opposite, decided_over}
+use Rattle.verdicts.proofs.Threes.{decided_over}
 
 -- P holds of each axis of a formula
 abbrev EachAxis : (Axis → Type 0) → Formula → Type 0
@@ -33,14 +32,14 @@ abbrev Still : Receipt → (ℕ → Type 0) → Axis → Type 0
 Still r Here a = (x : ℕ) → Here x → grows r a x ≡ false
 
 module _ (r : Receipt) (Here : ℕ → Type 0) (present : (x : ℕ) → x < count_of r → Here x) where
-  still_decided : (f : Formula) → EachAxis (Still r Here) f → (x : ℕ) → Here x → Decided (verdict three r f x)
+  still_decided : (f : Formula) → EachAxis (Still r Here) f → (x : ℕ) → Here x → verdict three r f x ≢ undecided
   unfolding verdict
-  still_decided (test t) s x h = decided_plain (passes r t x)
-  still_decided first s x h = decided_plain (eqb x 0)
-  still_decided (conj f g) s x h = decided_and (still_decided f s.0 x h) (still_decided g s.1 x h)
-  still_decided (disj f g) s x h = decided_or (still_decided f s.0 x h) (still_decided g s.1 x h)
-  still_decided (neg f) s x h = decided_opposite (still_decided f s x h)
-  still_decided (along a f) s x h = rw (s.0 x h) (decided_over (leads r a x) (verdict three r f) (count_of r) (λ y k. still_decided f s.1 y (present y k)))
+  still_decided (test t) s x h = grind arith
+  still_decided first s x h = grind arith
+  still_decided (conj f g) s x h = grind (arith, still_decided f s.0 x h, still_decided g s.1 x h)
+  still_decided (disj f g) s x h = grind (arith, still_decided f s.0 x h, still_decided g s.1 x h)
+  still_decided (neg f) s x h = grind (arith, still_decided f s x h)
+  still_decided (along a f) s x h = grind (arith, s.0 x h, decided_over (leads r a x) (verdict three r f) (count_of r) (λ y k. still_decided f s.1 y (present y k)))
 
 -- What holds of every backward axis holds of each axis in the formula of a forward path.
 module _ (P : Axis → Type 0) (backward : (a : Axis) → is_backward a ≡ true → P a) where
@@ -63,17 +62,10 @@ module _ (P : Axis → Type 0) (backward : (a : Axis) → is_backward a ≡ true
     along_filter (negated f) e = along_filter f e
 
   inverse_backward : (a : Axis) → is_forward a ≡ true → P (inverse a)
-  inverse_backward Itself e = backward Itself e
-  inverse_backward Child e = backward Parent e
-  inverse_backward Parent e = backward Child e
-  inverse_backward Descendant e = backward Ancestor e
-  inverse_backward Ancestor e = backward Descendant e
-  inverse_backward DescendantOrSelf e = backward AncestorOrSelf e
-  inverse_backward AncestorOrSelf e = backward DescendantOrSelf e
-  inverse_backward FollowingSibling e = backward PrecedingSibling e
-  inverse_backward PrecedingSibling e = backward FollowingSibling e
-  inverse_backward Following e = backward Preceding e
-  inverse_backward Preceding e = backward Following e
+  inverse_backward a e = backward (inverse a) (turned a ∙ e)
+    where
+      turned : (b : Axis) → is_backward (inverse b) ≡ is_forward b
+      turned b = grind arith
 
   back_step : (s : Step) (before : Formula) → forward_step s ≡ true → EachAxis P before → EachAxis P (step_from before s)
   back_step (plain a t) before e b = (record {}, (inverse_backward a e, b))
@@ -83,10 +75,10 @@ module _ (P : Axis → Type 0) (backward : (a : Axis) → is_backward a ≡ true
   back_path (last s) before e b = back_step s before e b
   back_path (then s p) before e b = let d = and_parts (forward_step s) (forward_path p) e in back_path p (step_from before s) d.1 (back_step s before d.0 b)
 
-pub all_still_decided : (r : Receipt) → ((a : Axis) (x : ℕ) → x < count_of r → grows r a x ≡ false) → (f : Formula) (x : ℕ) → x < count_of r → Decided (verdict three r f x)
+pub all_still_decided : (r : Receipt) → ((a : Axis) (x : ℕ) → x < count_of r → grows r a x ≡ false) → (f : Formula) (x : ℕ) → x < count_of r → verdict three r f x ≢ undecided
 all_still_decided r still f x h = still_decided r (λ y. y < count_of r) (λ y k. k) f (each_axis (Still r (λ y. y < count_of r)) still f) x h
 
-pub forward_decided : (r : Receipt) → ((a : Axis) (x : ℕ) → is_backward a ≡ true → grows r a x ≡ false) → (q : Path) → forward_path q ≡ true → (x : ℕ) → Decided (verdict three r (query_formula q) x)
+pub forward_decided : (r : Receipt) → ((a : Axis) (x : ℕ) → is_backward a ≡ true → grows r a x ≡ false) → (q : Path) → forward_path q ≡ true → (x : ℕ) → verdict three r (query_formula q) x ≢ undecided
 forward_decided r still q e x =
     let Here : ℕ → Type 0 = λ y. record {} in
     still_decided r Here (λ y k. record {}) (query_formula q) (back_path (Still r Here) (λ a b y k. still a y b) q first e (record {})) x (record {})

@@ -1,6 +1,5 @@
 pub mod SomeBelow
 pub mod Formulas
-pub mod KindLaws
 pub mod Threes
 pub mod Standing
 pub mod Decided

@@ -1,5 +1,5 @@
 -- Whether some rank passes: equal tests, the rank that passes, and two searches in either order.
-use Rattle.std.proofs.Common.{◌≡◌, ℕ, zero, suc, ◌<◌, Bool, true, false, ◌&&◌, eqb, sym, refl, ap, ◌∙◌, ⊎_elim, arith}
+use Rattle.std.proofs.Common.{◌≡◌, ℕ, zero, suc, ◌<◌, Bool, true, ◌&&◌, eqb, refl, ap, ◌∙◌, ⊎_elim, arith}
 use Rattle.std.proofs.lemmas.Bool.{cases_eq, eq-eqb, eqb-true, or_left, or_right, or_cases, and_parts, and_from}
 use Rattle.model.specs.Selection.{Set, some_below, alone}
 
@@ -12,22 +12,20 @@ pub some_from : (p : Set) (n k : ℕ) → k < n → p k ≡ true → some_below 
 unfolding some_below
 some_from p zero k h t = absurd (omega arith)
 some_from p (suc n) k h t = ⊎_elim
-    (λ (e : k ≡ n). or_left (p n) (some_below p n) (let u : p n ≡ true = cc in u))
+    (λ (e : k ≡ n). or_left (p n) (some_below p n) (cc))
     (λ ne. or_right (p n) (some_below p n) (some_from p n k (omega arith) t))
     (cases_eq k n)
 
 pub some_found : (p : Set) (n : ℕ) → some_below p n ≡ true → (k : ℕ) × (k < n) × (p k ≡ true)
 unfolding some_below
-some_found p zero e = let z : ◌≡◌ {A = ℕ} 0 1 = cc in absurd (omega arith)
+some_found p zero e = cc
 some_found p (suc n) e = ⊎_elim
     (λ (t : p n ≡ true). (n, omega arith, t))
     (λ (t : some_below p n ≡ true). let s = some_found p n t in (s.0, omega arith, s.2))
     (or_cases (p n) (some_below p n) e)
 
 same_truth : (a b : Bool) → (a ≡ true → b ≡ true) → (b ≡ true → a ≡ true) → a ≡ b
-same_truth true b f g = sym (f refl)
-same_truth false true f g = g refl
-same_truth false false f g = refl
+same_truth a b f g = grind arith
 
 -- Among all ranks, one alone passes where it passes.
 pub some_alone : (g : Set) (n y : ℕ) → y < n → some_below (λ x. alone y x && g x) n ≡ g y

@@ -10,7 +10,7 @@ use Rattle.verdicts.specs.Sound.{VerdictsAreSound}
 use Rattle.plane.specs.Steady.{Continues}
 use Rattle.plane.proofs.Steady.{grows_ended, backward_never_grows}
 use Rattle.plane.proofs.Onward.{continues_run}
-use Rattle.verdicts.proofs.Threes.{Kept, kept_in, kept_out, told_in, told_out, never_undecided}
+use Rattle.verdicts.proofs.Threes.{Kept, told_in, told_out}
 use Rattle.verdicts.proofs.Standing.{verdict_kept, standing_told}
 use Rattle.verdicts.proofs.Decided.{all_still_decided, forward_decided}
 
@@ -26,11 +26,11 @@ verdicts_are_sound = record {
   sure_stays_selected = λ r w q y h e calls.
       let s = after_calls calls r in
       let m = (continues_calls calls r w).longer in
-      told_in (selects s q y) (kept_in (standing_told s q y (omega arith)) (kept_in (standing_kept r w q y h calls) e));
+      told_in (selects s q y) ((standing_told s q y (omega arith)).still_in ((standing_kept r w q y h calls).still_in e));
   left_out_stays_out = λ r w q y h e calls.
       let s = after_calls calls r in
       let m = (continues_calls calls r w).longer in
-      told_out (selects s q y) (kept_out (standing_told s q y (omega arith)) (kept_out (standing_kept r w q y h calls) e));
-  ended_is_decided = λ r w ended q y h. never_undecided (all_still_decided r (grows_ended r w ended) (query_formula q) y h);
-  forward_is_decided = λ r q forward y. never_undecided (forward_decided r (backward_never_grows r) q forward y);
+      told_out (selects s q y) ((standing_told s q y (omega arith)).still_out ((standing_kept r w q y h calls).still_out e));
+  ended_is_decided = λ r w ended q y h. all_still_decided r (grows_ended r w ended) (query_formula q) y h;
+  forward_is_decided = λ r q forward y. forward_decided r (backward_never_grows r) q forward y;
 }

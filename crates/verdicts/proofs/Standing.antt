@@ -1,27 +1,23 @@
 -- What is decided stays so while the receipt goes on, and is what yes and no say.
-use Rattle.std.proofs.Common.{◌≡◌, ℕ, ◌<◌, eqb, sym, refl, ap}
+use Rattle.std.proofs.Common.{ℕ, ◌<◌, arith}
 use Rattle.model.specs.Receipt.{Receipt, count_of}
 use Rattle.model.specs.Axes.{leads, grows}
-use Rattle.model.specs.Query.{Test, any, named, Path}
-use Rattle.model.specs.Selection.{passes, selects}
+use Rattle.model.specs.Query.{any, named, Path}
+use Rattle.model.specs.Selection.{selects}
 use Rattle.model.specs.Verdict.{Formula, test, first, conj, disj, neg, along, plainly, verdict, or_over, yes_no, three, query_formula, standing}
 use Rattle.plane.specs.Steady.{Continues}
 use Rattle.verdicts.proofs.Formulas.{formula_is_selection}
-use Rattle.verdicts.proofs.Threes.{Kept, same, kept_equal, kept_and, kept_or, kept_opposite, kept_over, kept_along, over_none, over_in, told_and, told_or, told_not, told_plain, told_over, told_along}
-
--- An element's label stays, and so what it passes.
-passes_kept : (r r' : Receipt) → Continues r r' → (t : Test) (x : ℕ) → x < count_of r → passes r' t x ≡ passes r t x
-passes_kept r r' c any x h = refl
-passes_kept r r' c (named label) x h = ap (λ l. eqb l label) (c.label_kept x h)
+use Rattle.verdicts.proofs.Threes.{Kept, kept_over, kept_along, over_none, over_in, told_and, told_or, told_not, told_over, told_along}
 
 -- A verdict is kept while the receipt goes on.
 pub verdict_kept : (r r' : Receipt) → Continues r r' → (f : Formula) (x : ℕ) → x < count_of r → Kept (verdict three r f x) (verdict three r' f x)
 unfolding verdict
-verdict_kept r r' c (test t) x h = kept_equal (ap (plainly three) (sym (passes_kept r r' c t x h)))
-verdict_kept r r' c first x h = same
-verdict_kept r r' c (conj f g) x h = kept_and (verdict_kept r r' c f x h) (verdict_kept r r' c g x h)
-verdict_kept r r' c (disj f g) x h = kept_or (verdict_kept r r' c f x h) (verdict_kept r r' c g x h)
-verdict_kept r r' c (neg f) x h = kept_opposite (verdict_kept r r' c f x h)
+verdict_kept r r' c (test any) x h = grind arith
+verdict_kept r r' c (test (named label)) x h = grind (arith, c.label_kept x h)
+verdict_kept r r' c first x h = grind arith
+verdict_kept r r' c (conj f g) x h = grind (arith, verdict_kept r r' c f x h, verdict_kept r r' c g x h)
+verdict_kept r r' c (disj f g) x h = grind (arith, verdict_kept r r' c f x h, verdict_kept r r' c g x h)
+verdict_kept r r' c (neg f) x h = grind (arith, verdict_kept r r' c f x h)
 verdict_kept r r' c (along a f) x h = kept_along (grows r a x) (grows r' a x) (or_over three (leads r a x) (verdict three r f) (count_of r))
     (or_over three (leads r' a x) (verdict three r' f) (count_of r))
     (or_over three (leads r' a x) (verdict three r' f) (count_of r'))
@@ -32,11 +28,11 @@ verdict_kept r r' c (along a f) x h = kept_along (grows r a x) (grows r' a x) (o
 -- What three verdicts decide is what yes and no say.
 pub verdict_told : (r : Receipt) (f : Formula) (x : ℕ) → Kept (verdict three r f x) (plainly three (verdict yes_no r f x))
 unfolding verdict
-verdict_told r (test t) x = kept_equal (told_plain (passes r t x))
-verdict_told r first x = kept_equal (told_plain (eqb x 0))
-verdict_told r (conj f g) x = rw (sym (told_and (verdict yes_no r f x) (verdict yes_no r g x))) (kept_and (verdict_told r f x) (verdict_told r g x))
-verdict_told r (disj f g) x = rw (sym (told_or (verdict yes_no r f x) (verdict yes_no r g x))) (kept_or (verdict_told r f x) (verdict_told r g x))
-verdict_told r (neg f) x = rw (sym (told_not (verdict yes_no r f x))) (kept_opposite (verdict_told r f x))
+verdict_told r (test t) x = grind arith
+verdict_told r first x = grind arith
+verdict_told r (conj f g) x = told_and (verdict yes_no r f x) (verdict yes_no r g x) (verdict_told r f x) (verdict_told r g x)
+verdict_told r (disj f g) x = told_or (verdict yes_no r f x) (verdict yes_no r g x) (verdict_told r f x) (verdict_told r g x)
+verdict_told r (neg f) x = told_not (verdict yes_no r f x) (verdict_told r f x)
 verdict_told r (along a f) x = told_along (grows r a x) (or_over yes_no (leads r a x) (verdict yes_no r f) (count_of r)) (or_over three (leads r a x) (verdict three r f) (count_of r))
     (told_over (leads r a x) (verdict three r f) (verdict yes_no r f) (count_of r) (λ y k. verdict_told r f y))
 
