@@ -1,4 +1,6 @@
 // The limits of the product, each once; `specs/Limits.antt` has them for the contracts.
+ghost use Rattle.std.specs.Prelude.{◌≡◌, ◌≤◌};
+ghost use Rattle.model.specs.Limits.{most_length, most_parts, places};
 
 // The most elements that a receipt has.
 pub const MOST_ELEMENTS: usize = 256;
@@ -23,3 +25,11 @@ pub const MOST_LENGTH: usize = 16;
 
 // The most places that a query takes in a table.
 pub const MOST_PARTS: usize = 6 * MOST_LENGTH + 1;
+
+// The places that a query of this length may take in a table; past the greatest length, those of the greatest.
+pub fn places(length: usize) -> usize
+    ensures each { length ≤ most_length → result ≡ places length }
+    ensures past { most_length ≤ length → result ≡ most_parts }
+{
+    6 * length.min(MOST_LENGTH) + 1
+}

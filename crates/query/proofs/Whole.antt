@@ -163,14 +163,16 @@ accepted t labels old new d s k l c =
     let h = short labels k.tree d f l.1 in
     let b = f.built h in
     let e = f.exact h in
-    let r = room t labels (length old) d k l in
-    (record {
-      fits = record { tree = k.tree; sound = sound t labels d s k l.0; short = h; known = sym f.unknown ∙ l.2; room = omega (arith, e, l.3) };
-      length_is = e;
-      few = omega (arith, b.most, e);
-      holds = holds labels k.tree old new d b r.room c;
-      kept = kept labels k.tree old new d b r.room c;
-    }, names_last labels k.tree old new d b r.room c)
+    let r = room t labels (length old) d k l in (
+      record {
+        fits = record { tree = k.tree; sound = sound t labels d s k l.0; short = h; known = sym f.unknown ∙ l.2; room = omega (arith, e, l.3) };
+        length_is = e;
+        few = omega (arith, b.most, e);
+        holds = holds labels k.tree old new d b r.room c;
+        kept = kept labels k.tree old new d b r.room c;
+      },
+      names_last labels k.tree old new d b r.room c,
+    )
 
 pub from_start : (t : List ℕ) (labels : Labels) (d e : Draft) → d ≡ started → Tree t labels d e → Tree t labels started e
 from_start t labels d e q k = record { tree = k.tree; reads = k.reads; made = k.made ∙ ap (spine_drafted labels k.tree []) q }

@@ -2,7 +2,6 @@
 #![tactic(auto)]
 
 ghost use Rattle.std.specs.Prelude.{◌≡◌, ℕ, ◌≤◌, List, length, Result};
-ghost use Rattle.model.specs.Limits.{most_parts};
 ghost use Rattle.names.specs.Held.{fault_of, labels_of};
 ghost use Rattle.table.specs.declared.part.Part.{Part};
 ghost use Rattle.query.specs.declared.QueryFault.{QueryFault};
@@ -15,7 +14,7 @@ ghost use Rattle.query.specs.Refusals.{query_refusal, query_sentence};
 ghost use Rattle.query.specs.Theorems.{AcceptedAsWritten, FittingIsAccepted, OneFault, TablesPartByPart};
 
 use model::fault::{Described, Fault, Layer, Refusal};
-use model::limits::{MOST_LENGTH, MOST_TEXT};
+use model::limits::{MOST_LENGTH, MOST_TEXT, places};
 use names::NamesFault;
 use names::lookup::{Lookup, Naming};
 use names::sheet::Sheet;
@@ -121,7 +120,7 @@ fn limit(text: &[u8], draft: &Draft, room: usize) -> Result<(), QueryFault>
     if let Some(left) = draft.unknown {
         return Err(QueryFault::UnknownName(text.len().saturating_sub(left)));
     }
-    if room < 6 * draft.count + 1 {
+    if room < places(draft.count) {
         return Err(QueryFault::ShortTable);
     }
     Ok(())

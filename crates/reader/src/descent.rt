@@ -4,7 +4,6 @@ ghost use Rattle.std.specs.Prelude.{◌≡◌, ◌≤◌, length};
 ghost use Rattle.std.specs.List.{prefix_len};
 ghost use Rattle.model.specs.Names.{is_name_byte};
 ghost use Rattle.reader.specs.Parsed.{NameRead, TestRead, StepRead, PathRead, SpineRead, FilterRead, AtomRead, JoinsRead, WordRead, Shut};
-ghost use Rattle.grammar.specs.Machine.{bracket, paren};
 
 use crate::axes::{read_axis, word};
 use crate::draft::{Draft, Stuck};

@@ -12,7 +12,7 @@ pub struct Stuck {
     pub left: usize,
 }
 
-#[derive(Drop)]
+#[derive(Clone, Drop)]
 pub struct Draft {
     // The parts that are written; what finds no room is dropped.
     pub parts: ArrayVec<Part, MOST_PARTS>,

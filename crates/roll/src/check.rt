@@ -1,7 +1,7 @@
 // The check of bytes that are to be read as a roll.
 ghost use Rattle.std.specs.Prelude.{◌≡◌, [], ◌∷◌, ◌<◌, ◌≤◌, length, slice_index, IfOk, IfErr, Some};
 ghost use Rattle.model.specs.Receipt.{first_where};
-ghost use Rattle.model.specs.Reading.{Applies, number_in, outcome, reading_fault, receipt_in, wrong_label, wrong_level};
+ghost use Rattle.model.specs.Reading.{Applies, number_in, outcome, reading_fault, receipt_in, wrong_label};
 ghost use Rattle.roll.specs.Told.{told};
 ghost use Rattle.roll.specs.Parts.{fault_in, greatest_after, level_wrong};
 

@@ -1,7 +1,7 @@
 // The lines of a task: what the walk-through program is asked to do.
 #![tactic(auto)]
 
-ghost use Rattle.std.specs.Prelude.{◌≡◌, ℕ, ◌≤◌, length};
+ghost use Rattle.std.specs.Prelude.{◌≡◌};
 ghost use Rattle.script.specs.Commands.{command_of, number_in, opening_in, rolling_in};
 
 use model::action::Action;

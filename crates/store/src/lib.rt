@@ -1,7 +1,7 @@
 #![tactic(auto)]
 
-ghost use Rattle.std.specs.Prelude.{◌≡◌, ℕ, ◌+◌, ◌<◌, ◌≤◌, IfSome, Decides};
-ghost use Rattle.model.specs.Receipt.{Receipt, Lawful, count_of, level_at, label_of, level_of, parent_of, first_child_of, next_sibling_of, previous_sibling_of, innermost, last_inside};
+ghost use Rattle.std.specs.Prelude.{◌≡◌, ◌<◌, IfSome, Decides};
+ghost use Rattle.model.specs.Receipt.{Receipt, Lawful, count_of, label_of, level_of, parent_of, first_child_of, next_sibling_of, previous_sibling_of, innermost, last_inside};
 
 // A store holds a lawful receipt, and each answer is that receipt's; a question changes nothing.
 // A rank beyond the last element, and a relative that is not there, answer `None`.

@@ -1,8 +1,8 @@
 // Reading a table as a query.
-ghost use Rattle.std.specs.Prelude.{◌≡◌, ◌+◌, ◌<◌, ◌≤◌, ◌&&◌, true, length, nat_le, MatchOption};
-ghost use Rattle.model.specs.Limits.{most_length, most_parts, places};
+ghost use Rattle.std.specs.Prelude.{◌≡◌, ◌≤◌, ◌&&◌, length, nat_le, MatchOption};
+ghost use Rattle.model.specs.Limits.{most_length, places};
 ghost use Rattle.model.specs.Query.{path_length};
-ghost use Rattle.table.specs.Reading.{itself as self_path, reading};
+ghost use Rattle.table.specs.Reading.{itself as self_path};
 ghost use Rattle.table.specs.Formulas.{PartByPart};
 ghost use Rattle.table.specs.Lawful.{LawfulQuery, checked_reading, EveryTableIsLawful, PastTheQueryNothingCounts};
 ghost use Rattle.table.specs.Held.{EndsAt, Fitting, parts_of, reads_as};
@@ -12,7 +12,7 @@ use crate::measure::measure;
 use crate::part::{Part, Tag};
 use crate::role::Sort;
 use model::axis::Axis;
-use model::limits::{MOST_LENGTH, MOST_PARTS};
+use model::limits::{MOST_LENGTH, MOST_PARTS, places as most_places};
 
 // The parts of /self::*.
 const ITSELF: [Part; 3] = [
@@ -47,7 +47,7 @@ fn query_end(table: &[Part]) -> Option<usize>
 fn allowed(length: usize, parts: usize) -> bool
     ensures { result ≡ (nat_le length most_length && nat_le parts (places length)) }
 {
-    length <= MOST_LENGTH && parts <= 6 * length + 1
+    length <= MOST_LENGTH && parts <= most_places(length)
 }
 
 // The length of the lawful query that the first n parts make, or none.

@@ -28,7 +28,7 @@ fn stand_in_cost(role: Role) -> usize
 fn label_cost(label: usize) -> usize
     ensures { result ≡ capped (test_cost (named label)) }
 {
-    if (1..=MOST_LABEL as usize).contains(&label) {
+    if (1..=usize::from(MOST_LABEL)).contains(&label) {
         0
     } else {
         TOO_MUCH

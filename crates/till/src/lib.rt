@@ -1,9 +1,7 @@
 // The till's store: a receipt as it is rung up, with one record of links for each element.
 #![tactic(auto)]
 
-ghost use Rattle.std.specs.Prelude.{◌≡◌, ◌≤◌, length};
 ghost use Rattle.std.proofs.Props.{props};
-ghost use Rattle.arrayvec.specs.ArrayVec.{array_vec_len};
 ghost use Rattle.model.specs.Receipt.{Lawful};
 ghost use Rattle.till.specs.Links.{Linked, told};
 
