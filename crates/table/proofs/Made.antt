@@ -99,11 +99,11 @@ past_the_query_nothing_counts table other e =
     cc
 
 -- The query's parts alone are a table of that query.
-pub cut : (table : List Part) (n l : ℕ) → EndsAt table n → Fitting table n l → let parts = take n table in EndsAt parts (length parts) × Fitting parts (length parts) l
-cut table n l a f =
+pub cut : (table : List Part) (n : ℕ) → EndsAt table n → let parts = take n table in EndsAt parts (length parts) × (checked_reading parts ≡ checked_reading table)
+cut table n a =
     let k : last_place table < n = omega (arith, a.number) in
-    let r = reading_stays table n k a.within in
-    let w = length-take-le n table a.within in (
+    let w = length-take-le n table a.within in
+    let whole : take (parts_in table) (take n table) ≡ take (parts_in table) table = rw (← a.number) (take_all n (take n table) (omega (arith, w))) in (
       record { number = omega (arith, last_stays table n (omega arith), w, a.number); within = omega arith; few = omega (arith, w, a.few); step = step_stays table n k ∙ a.step },
-      record { measured = ap path_length r ∙ f.measured; short = f.short; labelled = ap path_labelled r ∙ f.labelled; few = omega (arith, w, f.few) },
+      past_the_query_nothing_counts table (take n table) whole,
     )

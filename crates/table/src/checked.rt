@@ -32,14 +32,18 @@ const ITSELF: [Part; 3] = [
     },
 ];
 
-// How many parts the query takes, if its last one is there, is a step, and is not past the most that a query has.
-fn query_end(table: &[Part]) -> Option<usize>
-    ensures { MatchOption result (checked_reading table.now ≡ self_path) (EndsAt table.now) }
+// The parts that the query takes, if its last one is there, is a step, and is not past the most that a query has.
+fn query_parts(table: &[Part]) -> Option<&[Part]>
+    ensures { MatchOption result (checked_reading table.now ≡ self_path) (λ parts. EndsAt parts.now (length parts.now) × (checked_reading parts.now ≡ checked_reading table.now)) }
 {
     let last = table.first()?.first;
-    match table.get(last)?.tag.sort() {
-        Sort::Query if last < MOST_PARTS => Some(last + 1),
-        _ => None,
+    let Sort::Query = table.get(last)?.tag.sort() else {
+        return None;
+    };
+    if last < MOST_PARTS {
+        Some(&table[..last + 1])
+    } else {
+        None
     }
 }
 
@@ -50,13 +54,13 @@ fn allowed(length: usize, parts: usize) -> bool
     length <= MOST_LENGTH && parts <= most_places(length)
 }
 
-// The length of the lawful query that the first n parts make, or none.
-fn lawful_length(table: &[Part], n: usize) -> Option<usize>
-    requires { EndsAt table.now n }
-    ensures { MatchOption result (checked_reading table.now ≡ self_path) (Fitting table.now n) }
+// The length of the lawful query that the parts make, or none.
+fn lawful_length(parts: &[Part]) -> Option<usize>
+    requires { EndsAt parts.now (length parts.now) }
+    ensures { MatchOption result (checked_reading parts.now ≡ self_path) (Fitting parts.now (length parts.now)) }
 {
-    let length = measure(table, n);
-    allowed(length, n).then_some(length)
+    let length = measure(parts);
+    allowed(length, parts.len()).then_some(length)
 }
 
 impl<'a> CheckedQuery<'a> {
@@ -73,10 +77,10 @@ impl<'a> CheckedQuery<'a> {
     fn lawful(table: &'a [Part]) -> Option<CheckedQuery<'a>>
         ensures { MatchOption result (checked_reading table.now ≡ self_path) (λ q. reads_as q ≡ checked_reading table.now) }
     {
-        let n = query_end(table)?;
-        let query_length = lawful_length(table, n)?;
+        let parts = query_parts(table)?;
+        let query_length = lawful_length(parts)?;
         Some(CheckedQuery {
-            parts: &table[..n],
+            parts,
             query_length,
         })
     }

@@ -99,16 +99,15 @@ impl<'a> Counted<'a> {
     }
 }
 
-// What the last of the first n parts counts.
-pub(crate) fn measure(parts: &[Part], n: usize) -> usize
-    requires some { 1 ≤ n }
-    requires within { n ≤ length parts.now }
-    requires few { n ≤ most_parts }
-    ensures { result ≡ capped (cost_at parts.now (n - 1)) }
+// What the last of the parts counts.
+pub(crate) fn measure(parts: &[Part]) -> usize
+    requires some { 1 ≤ length parts.now }
+    requires few { length parts.now ≤ most_parts }
+    ensures { result ≡ capped (cost_at parts.now (length parts.now - 1)) }
 {
     let mut counted = Counted::none(parts);
-    for part in &parts[..n] {
+    for part in parts {
         counted.count(*part);
     }
-    counted.costs[n - 1]
+    counted.costs[parts.len() - 1]
 }
