@@ -2,7 +2,7 @@
 // is read as, part by part, or what is wrong with it and where.
 #![tactic(auto)]
 
-use model::fault::{Fault, Refusal};
+use model::fault::{Described, Fault, Refusal};
 use model::limits::MOST_PARTS;
 use names::NamesFault;
 use names::lookup::{Naming, Unchecked};
@@ -10,23 +10,22 @@ use query::{QueryFault, read};
 use std::{fmt, fs, io};
 use table::part::{Part, Tag};
 
+// What is wrong, with the limits in numbers.
 fn query_sentence(fault: QueryFault) -> &'static str {
     match fault {
-        QueryFault::BadSheet(fault) => names_sentence(fault),
         QueryFault::BadSize => "The text is empty or has more than 512 bytes.",
-        QueryFault::Broken(_) => "From here on this is no query.",
         QueryFault::TooDeep(_) => "This is the ninth bracket that is open.",
         QueryFault::TooLong => "There are more than 16 steps, `and`, `or` and `not`.",
         QueryFault::UnknownName(_) => "This name is not in the sheet.",
         QueryFault::ShortTable => "The table has too few places for this query.",
+        _ => fault.sentence(),
     }
 }
 
 fn names_sentence(fault: NamesFault) -> &'static str {
     match fault {
         NamesFault::TooMuch => "The sheet has more than 6250 bytes or 250 lines.",
-        NamesFault::BadName(_) => "From here on this is no run of names.",
-        NamesFault::Repeated(_) => "This name stands earlier too.",
+        _ => fault.sentence(),
     }
 }
 

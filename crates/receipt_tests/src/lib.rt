@@ -84,46 +84,23 @@ mod tests {
 
     #[test]
     fn names_refusals(rt: HostRuntime) {
-        assert_eq!(rt;
-            ReceiptFault::BadLabel.refusal(),
-            Refusal {
-                number: 2,
-                layer: Layer::Receipt,
-                place: 0,
-            }
-        );
-        assert_eq!(rt;
-            ReceiptFault::Ended.refusal(),
-            Refusal {
-                number: 3,
-                layer: Layer::Receipt,
-                place: 0,
-            }
-        );
-        assert_eq!(rt;
-            ReceiptFault::Full.refusal(),
-            Refusal {
-                number: 4,
-                layer: Layer::Receipt,
-                place: 0,
-            }
-        );
-        assert_eq!(rt;
-            ReceiptFault::TooDeep.refusal(),
-            Refusal {
-                number: 5,
-                layer: Layer::Receipt,
-                place: 0,
-            }
-        );
-        assert_eq!(rt;
-            ReceiptFault::NothingOpen.refusal(),
-            Refusal {
-                number: 6,
-                layer: Layer::Receipt,
-                place: 0,
-            }
-        );
+        let numbers = [
+            (ReceiptFault::BadLabel, 2),
+            (ReceiptFault::Ended, 3),
+            (ReceiptFault::Full, 4),
+            (ReceiptFault::TooDeep, 5),
+            (ReceiptFault::NothingOpen, 6),
+        ];
+        for (fault, number) in &numbers {
+            assert_eq!(rt;
+                fault.refusal(),
+                Refusal {
+                    number: *number,
+                    layer: Layer::Receipt,
+                    place: 0,
+                }
+            );
+        }
     }
 
     #[test]
