@@ -1,9 +1,11 @@
 -- What the reading of bytes says, from the fault that was found.
 use Rattle.std.proofs.Common.{◌≡◌, ℕ, ◌<◌, List, Some, None, Ok, Err, IfErr, Option, Result, sym, refl, ap, ◌∙◌, arith}
+use Rattle.std.proofs.lemmas.Option.{none-some}
 use Rattle.model.specs.declared.fault.RollFault.{RollFault}
 use Rattle.model.specs.Receipt.{Receipt, Lawful}
 use Rattle.model.specs.Roll.{roll_of}
 use Rattle.model.specs.Reading.{Applies, byte_at, outcome, reading_fault, reading_of, receipt_in, unless_refused}
+use Rattle.roll.specs.Held.{Accepts, Refuses}
 use Rattle.model.proofs.FirstFault.{fault_applies}
 use Rattle.model.proofs.Readings.{accepted, accepted_roll}
 use Rattle.model.proofs.ReadBack.{roll_accepted, roll_tells}
@@ -34,3 +36,13 @@ module _ (bytes : List ℕ) (o : Option RollFault) (s : Receipt) (fault : o ≡ 
       let none : reading_fault bytes ≡ None = sym fault ∙ e in
       accepted_roll bytes (accepted bytes none) (small 0, (small 1, (small 2, (small 3, (small 4, (small 5, (small 6, (small 7, tt))))))))
       ∙ ap roll_of (sym (tells ∙ ap (λ p. unless_refused p (receipt_in bytes)) none))
+
+-- Bytes with no fault are the roll of the receipt that they tell, and of no other.
+pub accepts : (bytes : List ℕ) (s : Receipt) → ((i : ℕ) → byte_at bytes i < 256) → reading_fault bytes ≡ None → s ≡ receipt_in bytes → Accepts bytes s
+accepts bytes s small none tells =
+    let whole = tells ∙ sym (ap (λ p. unless_refused p (receipt_in bytes)) none) in
+    (none, tells, is_written bytes None s (sym none) whole small refl, λ other w e. (reads_back bytes None s (sym none) whole other w e).1)
+
+-- Bytes with a fault are the roll of no lawful receipt.
+pub refuses : (bytes : List ℕ) (fault : RollFault) → reading_fault bytes ≡ Some fault → Refuses bytes fault
+refuses bytes fault e = (e, fault_applies bytes fault e, λ s w b. none-some fault (sym (ap reading_fault b ∙ roll_accepted s w) ∙ e))

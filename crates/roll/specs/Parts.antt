@@ -1,9 +1,16 @@
 -- The part of a reading that is past the header, by levels, labels and depth alone.
-use Rattle.std.specs.Prelude.{ℕ, ◌+◌, ◌-◌, Bool, cond, List, length, Some, None, Option, ◌==◌, nat_lt, slice_index}
+use Rattle.std.specs.Prelude.{ℕ, ◌+◌, ◌-◌, ◌*◌, Bool, cond, not, ◌||◌, List, length, Some, None, Option, ◌==◌, nat_lt, slice_index}
 use Rattle.model.specs.declared.fault.RollFault.{RollFault}
 use Rattle.model.specs.declared.fault.RollFault.TheVariants.{BadLevel, BadLabel, BadDepth}
+use Rattle.model.specs.Limits.{most_elements}
 use Rattle.model.specs.Receipt.{first_where}
+use Rattle.model.specs.Roll.{header_length}
 use Rattle.model.specs.Reading.{fault_at, label_place, level_place, wrong_label, wrong_level}
+
+-- whether a header's numbers, or the length of what follows it, are not those of a roll of n elements
+abbrev pub misnumbered : ℕ → ℕ → ℕ → ℕ → Bool
+misnumbered n levels_at labels_at body =
+    nat_lt most_elements n || (not (levels_at == header_length) || (not (labels_at == header_length + n) || not (body == 2 * n)))
 
 -- whether the level at a rank breaks its rule
 abbrev pub level_wrong : List ℕ → ℕ → Bool

@@ -3,7 +3,7 @@ ghost use Rattle.std.specs.Prelude.{◌≡◌, [], ◌∷◌, ◌<◌, ◌≤◌
 ghost use Rattle.model.specs.Receipt.{first_where};
 ghost use Rattle.model.specs.Reading.{Applies, number_in, outcome, reading_fault, receipt_in, wrong_label};
 ghost use Rattle.roll.specs.Told.{told};
-ghost use Rattle.roll.specs.Parts.{fault_in, greatest_after, level_wrong};
+ghost use Rattle.roll.specs.Parts.{fault_in, greatest_after, level_wrong, misnumbered};
 
 use crate::layout::{EDITION, HEADER_LENGTH};
 use model::fault::RollFault;
@@ -14,6 +14,16 @@ fn number(high: u8, low: u8) -> usize
     ensures { result ≡ number_in (high ∷ low ∷ []) }
 {
     usize::from(u16::from_be_bytes([high, low]))
+}
+
+// Whether a header's numbers, or the length of what follows it, are not those of a roll.
+fn is_misnumbered(count: usize, levels_at: usize, labels_at: usize, body: usize) -> bool
+    ensures { result ≡ misnumbered count levels_at labels_at body }
+{
+    count > MOST_ELEMENTS
+        || levels_at != HEADER_LENGTH
+        || labels_at != HEADER_LENGTH + count
+        || body != 2 * count
 }
 
 // Whether the level at a rank breaks its rule.
@@ -61,11 +71,7 @@ impl<'a> Parts<'a> {
         let count = number(*count_high, *count_low);
         let levels_at = number(*levels_high, *levels_low);
         let labels_at = number(*labels_high, *labels_low);
-        if count > MOST_ELEMENTS
-            || levels_at != HEADER_LENGTH
-            || labels_at != HEADER_LENGTH + count
-            || body.len() != 2 * count
-        {
+        if is_misnumbered(count, levels_at, labels_at, body.len()) {
             return Err(RollFault::BadLayout);
         }
         let (levels, labels) = body.split_at(count);
