@@ -16,9 +16,9 @@ use Rattle.table.specs.Held.{EndsAt, Fitting}
 use Rattle.table.proofs.Lawful.{path_sound, path_free, path_some}
 use Rattle.table.proofs.Whole.{whole_query, no_step, no_last, last_stays, reading_stays, step_stays}
 
-then_some_both : (b : Bool) (l : ℕ) → (P : Option ℕ → Type 0) → (b ≡ true → P (Some l)) → (b ≡ false → P None) → P (then_some b l)
-then_some_both true l P f g = f refl
-then_some_both false l P f g = g refl
+pub then_some_both : {A : Type 0} (b : Bool) (x : A) → (P : Option A → Type 0) → (b ≡ true → P (Some x)) → (b ≡ false → P None) → P (then_some b x)
+then_some_both true x P f g = f refl
+then_some_both false x P f g = g refl
 
 module _ (table : List Part) where
   abbrev q : Path
@@ -38,6 +38,9 @@ module _ (table : List Part) where
 
   pub not_a_step : last_place table < length table → ends_in_step table ≡ false → checked_reading table ≡ itself
   not_a_step h e = stays_itself (no_step table h e)
+
+  pub too_many : 97 ≤ last_place table → checked_reading table ≡ itself
+  too_many h = unfit (λ s b f. omega arith)
 
   pub fits : (n l : ℕ) → Fitting table n l → n ≡ parts_in table → q ≡ checked_reading table
   fits n l f e =

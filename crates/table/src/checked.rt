@@ -1,11 +1,11 @@
 // Reading a table as a query.
-ghost use Rattle.std.specs.Prelude.{◌≡◌, ◌≤◌, ◌&&◌, length, nat_le, MatchOption};
+ghost use Rattle.std.specs.Prelude.{◌≡◌, ◌≤◌, ◌&&◌, ◌⊎◌, length, take, nat_le, IfSome, MatchOption};
 ghost use Rattle.model.specs.Limits.{most_length, places};
 ghost use Rattle.model.specs.Query.{path_length};
 ghost use Rattle.table.specs.Reading.{itself as self_path};
 ghost use Rattle.table.specs.Formulas.{PartByPart};
-ghost use Rattle.table.specs.Lawful.{LawfulQuery, checked_reading, EveryTableIsLawful, PastTheQueryNothingCounts};
-ghost use Rattle.table.specs.Held.{EndsAt, Fitting, parts_of, reads_as};
+ghost use Rattle.table.specs.Lawful.{LawfulQuery, parts_in, checked_reading, EveryTableIsLawful, PastTheQueryNothingCounts};
+ghost use Rattle.table.specs.Held.{EndsAt, Fitting, itself_parts, parts_of, reads_as};
 
 use crate::CheckedQuery;
 use crate::measure::measure;
@@ -34,17 +34,14 @@ const ITSELF: [Part; 3] = [
 
 // The parts that the query takes, if its last one is there, is a step, and is not past the most that a query has.
 fn query_parts(table: &[Part]) -> Option<&[Part]>
-    ensures { MatchOption result (checked_reading table.now ≡ self_path) (λ parts. EndsAt parts.now (length parts.now) × (checked_reading parts.now ≡ checked_reading table.now)) }
+    ensures reads { MatchOption result (checked_reading table.now ≡ self_path) (λ parts. EndsAt parts.now (length parts.now) × (checked_reading parts.now ≡ checked_reading table.now)) }
+    ensures front { IfSome result (λ parts. parts.now ≡ take (parts_in table.now) table.now) }
 {
     let last = table.first()?.first;
     let Sort::Query = table.get(last)?.tag.sort() else {
         return None;
     };
-    if last < MOST_PARTS {
-        Some(&table[..last + 1])
-    } else {
-        None
-    }
+    (last < MOST_PARTS).then_some(&table[..last + 1])
 }
 
 // Whether a lawful query may have this length and so many parts.
@@ -65,7 +62,8 @@ fn lawful_length(parts: &[Part]) -> Option<usize>
 
 impl<'a> CheckedQuery<'a> {
     fn itself() -> CheckedQuery<'a>
-        ensures { reads_as result ≡ self_path }
+        ensures reads { reads_as result ≡ self_path }
+        ensures parts { parts_of result ≡ itself_parts }
     {
         CheckedQuery {
             parts: &ITSELF,
@@ -75,7 +73,8 @@ impl<'a> CheckedQuery<'a> {
 
     // The lawful query of a table, or none.
     fn lawful(table: &'a [Part]) -> Option<CheckedQuery<'a>>
-        ensures { MatchOption result (checked_reading table.now ≡ self_path) (λ q. reads_as q ≡ checked_reading table.now) }
+        ensures reads { MatchOption result (checked_reading table.now ≡ self_path) (λ q. reads_as q ≡ checked_reading table.now) }
+        ensures front { IfSome result (λ q. parts_of q ≡ take (parts_in table.now) table.now) }
     {
         let parts = query_parts(table)?;
         let query_length = lawful_length(parts)?;
@@ -91,6 +90,7 @@ impl<'a> CheckedQuery<'a> {
         ensures lawful { LawfulQuery (reads_as result) }
         ensures every { EveryTableIsLawful }
         ensures past { PastTheQueryNothingCounts }
+        ensures source { (parts_of result ≡ take (parts_in table.now) table.now) ⊎ (parts_of result ≡ itself_parts) }
     {
         CheckedQuery::lawful(table).unwrap_or(CheckedQuery::itself())
     }

@@ -4,12 +4,12 @@ use Rattle.table.proofs.CheckedQuery.lawful.Goals as goal
 
 pub invariant_of-result : goal.invariant_of-result
 invariant_of-result c =
-    let e = c.in_ok-parts.ensures.0 in
+    let e = c.in_ok-parts.ensures.reads.0 in
     let f = c.in_ok-query_length.ensures in
     record { whole = sym e.number; step = e.step; measured = f.measured; short = f.short; labelled = f.labelled; few = f.few }
 
-pub returns : goal.returns
-returns c =
+pub returns-clause-reads : goal.returns-clause-reads
+returns-clause-reads c =
     let parts = c.in_ok-parts.parts.now in
-    let e = c.in_ok-parts.ensures in
+    let e = c.in_ok-parts.ensures.reads in
     fits parts (length parts) c.in_ok-query_length.query_length c.in_ok-query_length.ensures e.0.number ∙ e.1
