@@ -10,13 +10,22 @@ pub trait Naming {
     // The label of each name, if it has one.
     ghost labels: { Self → Labels };
 
-    fn label(&self, name: &[u8]) -> Option<usize>
+    // The label of a name, whatever number it is.
+    fn find(&self, name: &[u8]) -> Option<usize>
         ensures { result ≡ labels self.now name.now };
 }
 
 // A source of names whose labels are ones that an element can have.
 pub trait Lookup: Naming {
     ghost ranged: { (s : Self) (name : List ℕ) → InRange (Self.labels s name) };
+
+    // The label of a name, which fits an element's.
+    final fn label(&self, name: &[u8]) -> Option<u16>
+        ensures { result ≡ Self.labels self.now name.now }
+    {
+        let label = self.find(name)?;
+        Some(label as u16)
+    }
 }
 
 // The names of any bytes, taken as a sheet without a check: the first row has label 1, the next 2.
@@ -26,7 +35,7 @@ pub struct Unchecked<'a>(pub &'a [u8]);
 impl<'a> Naming for Unchecked<'a> {
     ghost labels = { λ s. label_in s.0.now };
 
-    fn label(&self, name: &[u8]) -> Option<usize> {
+    fn find(&self, name: &[u8]) -> Option<usize> {
         label(self.0, name)
     }
 }

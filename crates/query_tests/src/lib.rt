@@ -4,7 +4,7 @@
 #[cfg(test)]
 mod tests {
     use model::axis::Axis;
-    use names::lookup::{Naming, Unchecked};
+    use names::lookup::{Lookup, Unchecked};
     use names::sheet::Sheet;
     use names::{NamesFault, check as check_sheet, label};
     use query::{QueryFault, QuerySize, compile, read};

@@ -52,7 +52,7 @@ fn test<'a, N: Naming>(text: &'a [u8], names: &N, draft: &mut Draft) -> Result<&
         }
         [b, more @ ..] if is_letter(*b) => {
             let rest = name_rest(more, MOST_NAME - 1)?;
-            let label = names.label(&text[..text.len() - rest.len()]);
+            let label = names.find(&text[..text.len() - rest.len()]);
             draft.name(label, text.len());
             Ok(rest)
         }

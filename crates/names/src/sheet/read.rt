@@ -45,7 +45,7 @@ impl<'a> TryFrom<&'a [u8]> for Sheet<'a> {
 impl<'a> Naming for Sheet<'a> {
     ghost labels = { labels_of };
 
-    fn label(&self, name: &[u8]) -> Option<usize> {
+    fn find(&self, name: &[u8]) -> Option<usize> {
         let None = self.fault else {
             return None;
         };

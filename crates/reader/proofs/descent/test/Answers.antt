@@ -15,4 +15,4 @@ returns-in_ok-rest-in-len1-up g c =
     let x = c.args.text.now in
     let d = c.in_ok-rest-in-len1-up.ensures in
     name_read _ (get_or x 0 0) d.0 x _ c.in_ok-rest-in-len1-up.rest.now c.args.draft.now c.name.new.self (search (rules, front)) (sym c.if-is_letter.ensures) d.1 d.2 d.3
-    (c.name.ensures ∙ ap (λ (o : Option ℕ). labelled o (length x) c.args.draft.now) c.label-label.ensures)
+    (c.name.ensures ∙ ap (λ (o : Option ℕ). labelled o (length x) c.args.draft.now) c.find-label.ensures)
