@@ -93,7 +93,7 @@ abbrev found : Draft → List ℕ → Option ℕ
 found d t = or_else d.deep (deep_left d.depth t)
 
 added_found : (p : Part) (d : Draft) (t : List ℕ) → found (added p d) t ≡ found d t
-added_found p d t = cond_both (ltb (length d.parts.items) most_parts) _ d (λ (e : Draft). found e t ≡ found d t) (λ h. refl) (λ h. refl)
+added_found p d t = cond_both (ltb d.used most_parts) _ d (λ (e : Draft). found e t ≡ found d t) (λ h. refl) (λ h. refl)
 
 noted_first : (o u : Option ℕ) (left : ℕ) → or_else (first_of o left) u ≡ or_else o (Some left)
 noted_first None u left = refl

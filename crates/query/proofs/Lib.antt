@@ -5,3 +5,4 @@ pub mod Deep
 pub mod Whole
 pub mod Exact
 pub mod Compiled
+pub mod Small

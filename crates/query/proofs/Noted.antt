@@ -16,10 +16,10 @@ use Rattle.query.proofs.Built.{label}
 
 -- A part more changes neither the count nor the note.
 added_count : (p : Part) (d : Draft) → (added p d).count ≡ d.count
-added_count p d = cond_both (ltb (length d.parts.items) most_parts) _ d (λ (e : Draft). e.count ≡ d.count) (λ h. refl) (λ h. refl)
+added_count p d = cond_both (ltb d.used most_parts) _ d (λ (e : Draft). e.count ≡ d.count) (λ h. refl) (λ h. refl)
 
 added_unknown : (p : Part) (d : Draft) → (added p d).unknown ≡ d.unknown
-added_unknown p d = cond_both (ltb (length d.parts.items) most_parts) _ d (λ (e : Draft). e.unknown ≡ d.unknown) (λ h. refl) (λ h. refl)
+added_unknown p d = cond_both (ltb d.used most_parts) _ d (λ (e : Draft). e.unknown ≡ d.unknown) (λ h. refl) (λ h. refl)
 
 pub or_none : (o : Option ℕ) → o ≡ or_else o None
 or_none None = refl

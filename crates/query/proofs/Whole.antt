@@ -1,9 +1,9 @@
 -- Whole: what the draft of a whole text says of its query, and the answer that follows.
 use Rattle.std.proofs.Common.{◌≡◌, ℕ, ◌-◌, ◌*◌, ◌<◌, ◌≤◌, Bool, cond, List, [], ◌∷◌, ◌++◌, length, take, drop, Some, None, Ok, Err, sym, refl, ap, ◌∙◌, subst, ⊎_elim, append-nil, length-append, length-drop, arith}
-use Rattle.std.proofs.lemmas.List.{nil_from_length, length-set, take_all, take-append-le, drop-set-lt}
+use Rattle.std.proofs.lemmas.List.{nil_from_length, length-set, length-take-le, take_all, take-append-le, drop-set-lt}
 use Rattle.std.proofs.lemmas.Slice.{drop-append-drop}
 use Rattle.std.proofs.lemmas.Bool.{cases_lt, ne_eqb}
-use Rattle.model.specs.Limits.{most_length}
+use Rattle.model.specs.Limits.{most_length, most_parts}
 use Rattle.names.specs.Labels.{Labels}
 use Rattle.model.specs.Grammar.{PathTree, path_text, Breaks}
 use Rattle.grammar.specs.Machines.{dead, go, stops}
@@ -27,7 +27,7 @@ use Rattle.query.specs.Answers.{Sized, Sound, Answered, Refused, deep_place, unk
 use Rattle.query.specs.Limits.{Tree, Limited, Copied}
 use Rattle.reader.proofs.Moves.{Not as IsNot}
 use Rattle.reader.proofs.Compose.{ParsedSpine}
-use Rattle.query.proofs.Built.{Built, used, written, query_built}
+use Rattle.query.proofs.Built.{Ready, Built, query_built}
 use Rattle.query.proofs.Noted.{spine_noted}
 use Rattle.query.proofs.Deep.{placed, deep_noted}
 
@@ -59,6 +59,9 @@ parsed_none t n = let z : length t - length t ≡ 0 = omega arith in rw z at (br
     stuck (b ∷ u) m = ap (λ (v : Bool). go_on u (cond v (go (axis [])) dead)) (ne_eqb b 47 (m (omega arith)))
 
 -- The draft's side.
+started_ready : Ready started
+started_ready = record { size = refl; fits = omega arith }
+
 pub record Facts (labels : Labels) (tree : PathTree) (d : Draft) : Type 0 where
   pub exact : length_of labels tree ≤ most_length → d.count ≡ length_of labels tree
   pub over : most_length < length_of labels tree → most_length < d.count
@@ -72,7 +75,7 @@ facts_of labels tree =
       exact = λ h. n.exact (omega arith) ∙ omega arith;
       over = λ h. n.over (omega arith);
       unknown = n.first;
-      built = λ h. query_built labels tree [] started (omega arith) refl (omega arith);
+      built = λ h. query_built labels tree [] started started_ready (omega arith) refl (omega arith);
     }
 
 pub facts : (t : List ℕ) (labels : Labels) (d : Draft) (k : Tree t labels started d) → Facts labels k.tree d
@@ -111,23 +114,24 @@ refused t labels n d ShortTable s k l =
 
 -- the parts fit into the table
 pub record Room (n : ℕ) (d : Draft) : Type 0 where
-  pub some : 1 ≤ used d
-  pub room : used d ≤ n
+  pub some : 1 ≤ d.used
+  pub drafted : d.used ≤ most_parts
+  pub room : d.used ≤ n
 
 pub room : (t : List ℕ) (labels : Labels) (n : ℕ) (d : Draft) → Tree t labels started d → Limited t d n (Ok tt) → Room n d
 room t labels n d k l =
     let f = facts t labels d k in
     let h = short labels k.tree d f l.1 in
     let b = f.built h in
-    record { some = omega (arith, b.more); room = omega (arith, b.most, f.exact h, l.3) }
+    record { some = omega (arith, b.more); drafted = b.ready.fits; room = omega (arith, b.most, f.exact h, l.3) }
 
 -- what the table then holds
-module _ (labels : Labels) (tree : PathTree) (old new : List Part) (d : Draft) (b : Built started d (query (meaning labels tree)) (4 * length_of labels tree)) (h : used d ≤ length old) (c : Copied (written d) old new) where
+module _ (labels : Labels) (tree : PathTree) (old new : List Part) (d : Draft) (b : Built started d (query (meaning labels tree)) (4 * length_of labels tree)) (h : d.used ≤ length old) (c : Copied d.used d.parts old new) where
   abbrev n : ℕ
-  n = used d
+  n = d.used
 
   abbrev front : List Part
-  front = written d
+  front = take n d.parts
 
   abbrev mid : List Part
   mid = front ++ drop n old
@@ -135,11 +139,14 @@ module _ (labels : Labels) (tree : PathTree) (old new : List Part) (d : Draft) (
   abbrev k : ℕ
   k = n - 1
 
+  sized : length front ≡ n
+  sized = length-take-le n d.parts (omega (arith, b.ready.size, b.ready.fits))
+
   size : length mid ≡ length old
-  size = omega (arith, length-append front (drop n old), length-drop n old)
+  size = omega (arith, length-append front (drop n old), sized, length-drop n old)
 
   at : (i : ℕ) → i < n → piece_at (pieces mid) i ≡ piece_at (pieces front) i
-  at i l = sym (piece_stays mid n i l (omega (arith, size))) ∙ ap (λ (ps : List Part). piece_at (pieces ps) i) (take-append-le n front (drop n old) (omega arith) ∙ take_all n front (omega arith))
+  at i l = sym (piece_stays mid n i l (omega (arith, size))) ∙ ap (λ (ps : List Part). piece_at (pieces ps) i) (take-append-le n front (drop n old) (omega (arith, sized)) ∙ take_all n front (omega (arith, sized)))
 
   some : 0 < length mid
   some = omega (arith, b.more, size)
@@ -155,9 +162,9 @@ module _ (labels : Labels) (tree : PathTree) (old new : List Part) (d : Draft) (
   holds = sym (whole_is_reading new n names_last (omega (arith, ap length c, length-set mid 0 (part First k 0), size))) ∙ reads
 
   pub kept : drop n new ≡ drop n old
-  kept = ap (drop n) c ∙ drop-set-lt n mid 0 _ (omega (arith, b.more)) ∙ drop-append-drop n old front n (omega arith) refl
+  kept = ap (drop n) c ∙ drop-set-lt n mid 0 _ (omega (arith, b.more)) ∙ drop-append-drop n old front n (omega arith) sized
 
-pub accepted : (t : List ℕ) (labels : Labels) (old new : List Part) (d : Draft) → Sized t → Tree t labels started d → Limited t d (length old) (Ok tt) → Copied (written d) old new → Answered t labels old new (Ok (record { steps = d.count; places = used d }))
+pub accepted : (t : List ℕ) (labels : Labels) (old new : List Part) (d : Draft) → Sized t → Tree t labels started d → Limited t d (length old) (Ok tt) → Copied d.used d.parts old new → Answered t labels old new (Ok (record { steps = d.count; places = d.used }))
 accepted t labels old new d s k l c =
     let f = facts t labels d k in
     let h = short labels k.tree d f l.1 in

@@ -1,5 +1,5 @@
 -- What the steps of a reading promise to the call that joins them.
-use Rattle.std.specs.Prelude.{◌≡◌, ℕ, ◌-◌, ◌<◌, ◌≤◌, List, [], ◌++◌, length, drop, Some, None, Ok, Err, Result, slice_set}
+use Rattle.std.specs.Prelude.{◌≡◌, ℕ, ◌-◌, ◌<◌, ◌≤◌, List, [], ◌++◌, length, take, drop, Some, None, Ok, Err, Result, slice_set}
 use Rattle.model.specs.Limits.{most_length, places}
 use Rattle.model.specs.Grammar.{PathTree, Reads, Breaks}
 use Rattle.query.specs.declared.QueryFault.{QueryFault}
@@ -30,6 +30,6 @@ Limited t d n (Err TooLong) = (d.deep ≡ None) × (most_length < d.count)
 Limited t d n (Err (UnknownName p)) = (d.deep ≡ None) × (d.count ≤ most_length) × ((left : ℕ) × (d.unknown ≡ Some left) × (p ≡ length t - left))
 Limited t d n (Err ShortTable) = (d.deep ≡ None) × (d.count ≤ most_length) × (d.unknown ≡ None) × (n < places d.count)
 
--- the draft's parts stand in the table's first places, but that the first one names the last; the rest stays
-abbrev pub Copied : List Part → List Part → List Part → Type 0
-Copied parts old new = new ≡ slice_set (parts ++ drop (length parts) old) 0 (part First (length parts - 1) 0)
+-- the draft's first n parts stand in the table's first n places, but that the first one names the last; the rest stays
+abbrev pub Copied : ℕ → List Part → List Part → List Part → Type 0
+Copied n parts old new = new ≡ slice_set (take n parts ++ drop n old) 0 (part First (n - 1) 0)

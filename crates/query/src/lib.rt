@@ -1,7 +1,8 @@
 // Query texts: one is read into a table of parts, or refused by a fault that names what is wrong.
 #![tactic(auto)]
 
-ghost use Rattle.std.specs.Prelude.{◌≡◌, ℕ, ◌≤◌, List, length, Result};
+ghost use Rattle.std.specs.Prelude.{◌≡◌, ℕ, ◌≤◌, List, length, IfOk, Result};
+ghost use Rattle.model.specs.Limits.{most_parts};
 ghost use Rattle.names.specs.Held.{fault_of, labels_of};
 ghost use Rattle.table.specs.declared.part.Part.{Part};
 ghost use Rattle.query.specs.declared.QueryFault.{QueryFault};
@@ -11,6 +12,7 @@ ghost use Rattle.query.specs.Answers.{Answered, steps_of};
 ghost use Rattle.query.specs.Compiled.{CompiledAs, CompiledWith, ReadsAsWritten};
 ghost use Rattle.query.specs.Limits.{Drafted, Limited, Copied};
 ghost use Rattle.query.specs.Refusals.{query_refusal, query_sentence};
+ghost use Rattle.query.specs.Small.{SmallParts, SmallWhereRanged};
 ghost use Rattle.query.specs.Theorems.{AcceptedAsWritten, FittingIsAccepted, OneFault, TablesPartByPart};
 
 use model::fault::{Described, Fault, Layer, Refusal};
@@ -128,12 +130,13 @@ fn limit(text: &[u8], draft: &Draft, room: usize) -> Result<(), QueryFault>
 
 // Writes the draft's parts into the first places of the table; the first one names the last.
 fn copy(draft: &Draft, table: &mut [Part])
-    requires some { 1 ≤ length draft.now.parts.items }
-    requires room { length draft.now.parts.items ≤ length table.old }
-    ensures { Copied draft.now.parts.items table.old table.new }
+    requires some { 1 ≤ draft.now.used }
+    requires drafted { draft.now.used ≤ most_parts }
+    requires room { draft.now.used ≤ length table.old }
+    ensures { Copied draft.now.used draft.now.parts table.old table.new }
 {
-    let used = draft.parts.len();
-    table[..used].copy_from_slice(draft.parts.as_slice());
+    let used = draft.used;
+    table[..used].copy_from_slice(&draft.parts[..used]);
     table[0] = Part {
         tag: Tag::First,
         first: used - 1,
@@ -145,6 +148,7 @@ fn copy(draft: &Draft, table: &mut [Part])
 pub fn read<N: Naming>(text: &[u8], names: &N, table: &mut [Part]) -> Result<QuerySize, QueryFault>
     ensures answers { Answered text.now (N.labels names.now) table.old table.new result }
     ensures only { (other : Result QuerySize QueryFault) (new : List Part) → Answered text.now (N.labels names.now) table.old new other → steps_of other ≡ steps_of result }
+    ensures small { SmallWhereRanged (N.labels names.now) table.new result }
 {
     if text.is_empty() || text.len() > MOST_TEXT {
         return Err(QueryFault::BadSize);
@@ -155,7 +159,7 @@ pub fn read<N: Naming>(text: &[u8], names: &N, table: &mut [Part]) -> Result<Que
     copy(&draft, table);
     Ok(QuerySize {
         steps: draft.count,
-        places: draft.parts.len(),
+        places: draft.used,
     })
 }
 
@@ -168,6 +172,7 @@ pub fn compile_with<N: Lookup>(
     ensures answers { CompiledAs text.now (N.labels names.now) table.old table.new result }
     ensures only { (other : Result ℕ QueryFault) (new : List Part) → CompiledAs text.now (N.labels names.now) table.old new other → other ≡ result }
     ensures written { ReadsAsWritten text.now (N.labels names.now) table.new result }
+    ensures small { IfOk result (λ l. SmallParts table.new) }
 {
     let size = read(text, names, table)?;
     Ok(size.steps)
@@ -178,6 +183,7 @@ pub fn compile(text: &[u8], sheet: &Sheet, table: &mut [Part]) -> Result<usize, 
     ensures answers { CompiledWith (fault_of sheet.now) text.now (labels_of sheet.now) table.old table.new result }
     ensures only { (other : Result ℕ QueryFault) (new : List Part) → CompiledWith (fault_of sheet.now) text.now (labels_of sheet.now) table.old new other → other ≡ result }
     ensures written { ReadsAsWritten text.now (labels_of sheet.now) table.new result }
+    ensures small { IfOk result (λ l. SmallParts table.new) }
 {
     if let Some(fault) = sheet.fault() {
         return Err(fault.into());

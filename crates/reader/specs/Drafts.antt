@@ -1,5 +1,5 @@
 -- What each part of a tree adds to a draft: the readers' contracts cite it, and theorems say what the draft then reads as.
-use Rattle.std.specs.Prelude.{ℕ, ◌+◌, ◌-◌, cond, List, [], ◌∷◌, ◌++◌, length, Some, None, codes, Option, nat_le, nat_lt}
+use Rattle.std.specs.Prelude.{ℕ, ◌+◌, ◌-◌, cond, List, ◌∷◌, ◌++◌, length, replicate, Some, None, codes, Option, nat_le, nat_lt, slice_set}
 use Rattle.model.specs.Limits.{most_length, most_open, most_parts}
 use Rattle.model.specs.declared.axis.Axis.{Axis}
 use Rattle.model.specs.Grammar.{TestTree, star, name, PathTree, StepTree, OrChain, AndChain, Atom, one, slash, bare, held, ands, or, atom, and, along, parens, negate, path_text, or_text, and_text, atom_text}
@@ -14,33 +14,33 @@ abbrev pub part : Tag → ℕ → ℕ → Part
 part tag i j = record { tag = tag; first = i; second = j }
 
 abbrev pub started : Draft
-started = record { parts = record { items = part First 0 0 ∷ [] }; count = 0; unknown = None; depth = 0; deep = None }
+started = record { parts = replicate most_parts (part First 0 0); used = 1; count = 0; unknown = None; depth = 0; deep = None }
 
 -- a part is written where there is room
 abbrev pub added : Part → Draft → Draft
-added p d = cond (nat_lt (length d.parts.items) most_parts) (record { parts = record { items = d.parts.items ++ p ∷ [] }; count = d.count; unknown = d.unknown; depth = d.depth; deep = d.deep }) d
+added p d = cond (nat_lt d.used most_parts) (record { parts = slice_set d.parts d.used p; used = d.used + 1; count = d.count; unknown = d.unknown; depth = d.depth; deep = d.deep }) d
 
 abbrev pub counted : Draft → Draft
-counted d = record { parts = d.parts; count = cond (nat_le d.count most_length) (d.count + 1) d.count; unknown = d.unknown; depth = d.depth; deep = d.deep }
+counted d = record { parts = d.parts; used = d.used; count = cond (nat_le d.count most_length) (d.count + 1) d.count; unknown = d.unknown; depth = d.depth; deep = d.deep }
 
 abbrev pub first_of : Option ℕ → ℕ → Option ℕ
 first_of None left = Some left
 first_of (Some u) left = Some u
 
 abbrev pub noted : ℕ → Draft → Draft
-noted left d = record { parts = d.parts; count = d.count; unknown = first_of d.unknown left; depth = d.depth; deep = d.deep }
+noted left d = record { parts = d.parts; used = d.used; count = d.count; unknown = first_of d.unknown left; depth = d.depth; deep = d.deep }
 
 -- "[" or "(", with so many bytes left after it: past the most, the first one is noted
 abbrev pub entered : ℕ → Draft → Draft
-entered left d = record { parts = d.parts; count = d.count; unknown = d.unknown; depth = cond (nat_lt d.depth most_open) (d.depth + 1) d.depth; deep = cond (nat_lt d.depth most_open) d.deep (first_of d.deep left) }
+entered left d = record { parts = d.parts; used = d.used; count = d.count; unknown = d.unknown; depth = cond (nat_lt d.depth most_open) (d.depth + 1) d.depth; deep = cond (nat_lt d.depth most_open) d.deep (first_of d.deep left) }
 
 -- "]" or ")"
 abbrev pub exited : Draft → Draft
-exited d = record { parts = d.parts; count = d.count; unknown = d.unknown; depth = d.depth - 1; deep = d.deep }
+exited d = record { parts = d.parts; used = d.used; count = d.count; unknown = d.unknown; depth = d.depth - 1; deep = d.deep }
 
 -- the place of the part that was written last
 abbrev pub root : Draft → ℕ
-root d = length d.parts.items - 1
+root d = d.used - 1
 
 abbrev pub joined_to : Tag → ℕ → Draft → Draft
 joined_to tag i d = added (part tag i (root d)) d

@@ -1,8 +1,7 @@
 // A draft of a table: the parts are written here while a text is read, and reach the caller's table only once nothing is refused.
-ghost use Rattle.std.specs.Prelude.{◌≡◌, ◌-◌, length};
+ghost use Rattle.std.specs.Prelude.{◌≡◌, ◌-◌};
 ghost use Rattle.reader.specs.Drafts.{part, started, added, counted, noted, labelled, entered, exited, joined_to, reached, closed};
 
-use arrayvec::ArrayVec;
 use model::limits::{MOST_LENGTH, MOST_OPEN, MOST_PARTS};
 use table::part::{Part, Tag};
 
@@ -12,10 +11,12 @@ pub struct Stuck {
     pub left: usize,
 }
 
-#[derive(Clone, Drop)]
+// An array with its count, since the kit's vector of fixed capacity is never `Copy`.
+#[derive(Clone, Copy)]
 pub struct Draft {
-    // The parts that are written; what finds no room is dropped.
-    pub parts: ArrayVec<Part, MOST_PARTS>,
+    pub parts: [Part; MOST_PARTS],
+    // How many parts are written; what finds no room is dropped.
+    pub used: usize,
     // The length so far; one more than the greatest stands for all above, a number like the others so that counting needs no cases.
     pub count: usize,
     // How many bytes are left from the first unknown name on.
@@ -29,10 +30,9 @@ pub struct Draft {
 pub fn start() -> Draft
     ensures { result ≡ started }
 {
-    let mut parts = ArrayVec::new();
-    parts.push(Part::UNUSED);
     Draft {
-        parts,
+        parts: [Part::UNUSED; MOST_PARTS],
+        used: 1,
         count: 0,
         unknown: None,
         depth: 0,
@@ -43,15 +43,18 @@ pub fn start() -> Draft
 impl Draft {
     // The place of the part that was written last.
     pub(crate) fn root(&self) -> usize
-        ensures { result ≡ length self.now.parts.items - 1 }
+        ensures { result ≡ self.now.used - 1 }
     {
-        self.parts.len().saturating_sub(1)
+        self.used.saturating_sub(1)
     }
 
     pub(crate) fn add(&mut self, tag: Tag, first: usize, second: usize)
         ensures { self.new ≡ added (part tag first second) self.old }
     {
-        let _written = self.parts.try_push(Part { tag, first, second });
+        if self.used < MOST_PARTS {
+            self.parts[self.used] = Part { tag, first, second };
+            self.used += 1;
+        }
     }
 
     // One more step, `and`, `or` or `not`.
