@@ -1,17 +1,21 @@
 -- Compiled: where labels are ones that elements can have, a table that a text was read into is the checked query of the text.
-use Rattle.std.proofs.Common.{◌≡◌, ℕ, ◌+◌, ◌-◌, ◌≤◌, List, [], length, drop, Ok, Err, Result, sym, ap, ◌∙◌, arith}
+use Rattle.std.proofs.Common.{◌≡◌, ℕ, ◌+◌, ◌-◌, ◌≤◌, true, List, [], length, take, drop, Ok, Err, Result, sym, ap, ◌∙◌, arith}
+use Rattle.std.proofs.lemmas.Bool.{and_from, le-leb}
 use Rattle.std.proofs.lemmas.List.{drop-drop}
+use Rattle.std.proofs.lemmas.List.Elements.{All-weaker}
 use Rattle.model.specs.Limits.{places}
 use Rattle.model.specs.Query.{path_length}
 use Rattle.grammar.proofs.Unique.{unambiguous}
 use Rattle.names.specs.Labels.{Labels, InRange}
 use Rattle.table.specs.declared.part.Part.{Part}
+use Rattle.table.specs.Lawful.{most_number, narrow, parts_in}
 use Rattle.table.proofs.Made.{holds}
 use Rattle.table.proofs.WholeTables.{whole_is_reading}
 use Rattle.query.specs.declared.QueryFault.{QueryFault}
 use Rattle.query.specs.declared.QuerySize.{QuerySize}
 use Rattle.query.specs.Answers.{Answered, meaning}
 use Rattle.query.specs.Compiled.{Compiled, CompiledAs, ReadsAsWritten}
+use Rattle.query.specs.Small.{Small, SmallParts}
 use Rattle.query.proofs.Exact.{one_compiled}
 use Rattle.query.proofs.Known.{path_known}
 
@@ -22,14 +26,17 @@ past n m old new h e =
     let split : (ps : List Part) → drop m ps ≡ drop (m - n) (drop n ps) = λ ps. ap (λ (i : ℕ). drop i ps) (sym k) ∙ sym (drop-drop (m - n) n ps) in
     split new ∙ ap (drop (m - n)) e ∙ sym (split old)
 
-pub compiled : (t : List ℕ) (labels : Labels) → ((n : List ℕ) → InRange (labels n)) → (old new : List Part) (size : QuerySize) → length new ≡ length old → Answered t labels old new (Ok size) → Compiled t labels old new size.steps
-compiled t labels ranged old new size n (a, named) =
+small_is_narrow : (p : Part) → Small p → narrow p ≡ true
+small_is_narrow p s = and_from _ _ (le-leb p.first most_number (omega (arith, s.0))) (le-leb p.second most_number (omega (arith, s.1)))
+
+pub compiled : (t : List ℕ) (labels : Labels) → ((n : List ℕ) → InRange (labels n)) → (old new : List Part) (size : QuerySize) → length new ≡ length old → Answered t labels old new (Ok size) → SmallParts new → Compiled t labels old new size.steps
+compiled t labels ranged old new size n (a, named) small =
     let f = a.fits in
     let e = whole_is_reading new size.places named (omega (arith, a.few, a.length_is, f.room)) ∙ a.holds in
     record {
       fits = f;
       length_is = a.length_is;
-      holds = holds new (meaning labels f.tree) e f.short (path_known labels ranged f.tree [] f.known) (omega (arith, named, a.few, a.length_is));
+      holds = holds new (meaning labels f.tree) e f.short (path_known labels ranged f.tree [] f.known) (omega (arith, named, a.few, a.length_is)) (All-weaker Small (λ p. narrow p ≡ true) small_is_narrow (take (parts_in new) new) small);
       kept = past size.places (places size.steps) old new a.few a.kept;
     }
 

@@ -218,6 +218,27 @@ mod tests {
         assert_eq!(rt; CheckedQuery::over(&long[..7]).length(), 1);
     }
 
+    // A lawful query's parts have no number above 65,535, used or not; what stands past them may.
+    #[test]
+    fn wide_numbers(rt: HostRuntime) {
+        let mut table = [
+            part(Tag::First, 4, 0),
+            part(Tag::Any, 65_535, 0),
+            part(Tag::Step(Axis::Child), 1, 65_535),
+            part(Tag::Any, 0, 0),
+            part(Tag::Step(Axis::Child), 3, 2),
+            part(Tag::Any, 65_536, 65_536),
+        ];
+        assert_eq!(rt; CheckedQuery::over(&table).length(), 2);
+        assert_eq!(rt; CheckedQuery::over(&table).parts()[1].first, 65_535);
+        table[1].first = 65_536;
+        assert_eq!(rt; CheckedQuery::over(&table).length(), 1);
+        assert_eq!(rt; CheckedQuery::over(&table).parts().len(), 3);
+        table[1].first = 0;
+        table[2].second = 65_536;
+        assert_eq!(rt; CheckedQuery::over(&table).parts().len(), 3);
+    }
+
     // Each fault that applies to a text, with a later one that would apply too.
     #[test]
     fn first_of_two(rt: HostRuntime) {

@@ -1,5 +1,6 @@
 -- What a checked query holds, and how it is made.
-use Rattle.std.specs.Prelude.{◌≡◌, ℕ, ◌≤◌, true, List, [], ◌∷◌, length}
+use Rattle.std.specs.Prelude.{◌≡◌, ℕ, ◌≤◌, true, List, [], ◌∷◌, length, take}
+use Rattle.std.specs.List.{AllPass}
 use Rattle.model.specs.declared.axis.Axis.TheVariants.{Itself}
 use Rattle.model.specs.Limits.{most_length, most_parts, places}
 use Rattle.model.specs.Query.{Path, path_length}
@@ -8,7 +9,7 @@ use Rattle.table.specs.declared.part.Part.{Part}
 use Rattle.table.specs.declared.part.Tag.TheVariants.{First, Any, Step}
 use Rattle.table.specs.Reading.{reading}
 use Rattle.table.specs.Formulas.{ends_in_step}
-use Rattle.table.specs.Lawful.{parts_in, path_labelled}
+use Rattle.table.specs.Lawful.{parts_in, path_labelled, narrow}
 
 abbrev pub parts_of : CheckedQuery → List Part
 parts_of q = q.parts.now
@@ -27,9 +28,10 @@ pub record EndsAt (table : List Part) (n : ℕ) : Type 0 where
   pub few : n ≤ most_parts
   pub step : ends_in_step table ≡ true
 
--- the first n parts make a lawful query of this length
+-- the first n parts, all narrow, make a lawful query of this length
 pub record Fitting (table : List Part) (n l : ℕ) : Type 0 where
   pub measured : path_length (reading table) ≡ l
   pub short : l ≤ most_length
   pub labelled : path_labelled (reading table) ≡ true
   pub few : n ≤ places l
+  pub narrow_parts : AllPass narrow (take n table)

@@ -1,5 +1,6 @@
 -- Lawful queries, and the one that a table reads as, whatever it holds.
 use Rattle.std.specs.Prelude.{◌≡◌, ℕ, ◌+◌, ◌≤◌, Bool, true, cond, ◌&&◌, List, take, nat_le}
+use Rattle.std.specs.List.{list_all}
 use Rattle.model.specs.Limits.{most_label, most_length, places}
 use Rattle.model.specs.Query.{Test, any, named, Path, last, then, Step, plain, filtered, Filter, holds, both, either, negated, path_length}
 use Rattle.table.specs.declared.part.Part.{Part}
@@ -30,13 +31,21 @@ pub record LawfulQuery (q : Path) : Type 0 where
   pub short : path_length q ≤ most_length
   pub labelled : path_labelled q ≡ true
 
+-- the greatest number that a part of a lawful query may have
+abbrev pub most_number : ℕ
+most_number = 65535
+
 -- how many parts the query takes, from the first place to its last part
 abbrev pub parts_in : List Part → ℕ
 parts_in table = last_place table + 1
 
--- whether the parts read as a lawful query and are as few as its length allows
+-- whether neither number of a part is above 65,535
+abbrev pub narrow : Part → Bool
+narrow p = nat_le p.first most_number && nat_le p.second most_number
+
+-- whether the parts read as a lawful query, are as few as its length allows, and are narrow
 abbrev pub fit : List Part → Bool
-fit table = (nat_le (path_length (reading table)) most_length && path_labelled (reading table)) && nat_le (parts_in table) (places (path_length (reading table)))
+fit table = ((nat_le (path_length (reading table)) most_length && path_labelled (reading table)) && nat_le (parts_in table) (places (path_length (reading table)))) && list_all narrow (take (parts_in table) table)
 
 -- The query of a table: what its parts read as, or /self::* where they make no lawful query.
 abbrev pub checked_reading : List Part → Path

@@ -1,10 +1,11 @@
 // Reading a table as a query.
 ghost use Rattle.std.specs.Prelude.{◌≡◌, ◌≤◌, ◌&&◌, ◌⊎◌, length, take, nat_le, IfSome, MatchOption};
+ghost use Rattle.std.specs.List.{AllPass};
 ghost use Rattle.model.specs.Limits.{most_length, places};
 ghost use Rattle.model.specs.Query.{path_length};
 ghost use Rattle.table.specs.Reading.{itself as self_path};
 ghost use Rattle.table.specs.Formulas.{PartByPart};
-ghost use Rattle.table.specs.Lawful.{LawfulQuery, parts_in, checked_reading, EveryTableIsLawful, PastTheQueryNothingCounts};
+ghost use Rattle.table.specs.Lawful.{LawfulQuery, parts_in, narrow, checked_reading, EveryTableIsLawful, PastTheQueryNothingCounts};
 ghost use Rattle.table.specs.Held.{EndsAt, Fitting, itself_parts, parts_of, reads_as};
 
 use crate::CheckedQuery;
@@ -109,6 +110,7 @@ impl<'a> CheckedQuery<'a> {
         ensures value { result.now ≡ parts_of self.now }
         ensures few { length result.now ≤ places (path_length (reads_as self.now)) }
         ensures each { PartByPart result.now (reads_as self.now) }
+        ensures narrow { AllPass narrow result.now }
     {
         self.parts
     }

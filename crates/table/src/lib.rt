@@ -2,11 +2,12 @@
 #![tactic(auto)]
 
 ghost use Rattle.std.specs.Prelude.{◌≡◌, ◌+◌, ◌≤◌, true, length};
+ghost use Rattle.std.specs.List.{AllPass};
 ghost use Rattle.model.specs.Limits.{most_length, places};
 ghost use Rattle.model.specs.Query.{path_length};
 ghost use Rattle.table.specs.Reading.{last_place, reading};
 ghost use Rattle.table.specs.Formulas.{ends_in_step};
-ghost use Rattle.table.specs.Lawful.{path_labelled};
+ghost use Rattle.table.specs.Lawful.{path_labelled, narrow};
 
 use crate::part::Part;
 
@@ -26,4 +27,5 @@ pub struct CheckedQuery<'a> {
     ghost short: { query_length ≤ most_length },
     ghost labelled: { path_labelled (reading parts.now) ≡ true },
     ghost few: { length parts.now ≤ places query_length },
+    ghost narrow_parts: { AllPass narrow parts.now },
 }

@@ -1,10 +1,12 @@
 // The length of the query that parts read as, found in one pass over them.
-ghost use Rattle.std.specs.Prelude.{◌≡◌, ◌+◌, ◌-◌, ◌<◌, ◌≤◌, length, slice_get, Some};
+ghost use Rattle.std.specs.Prelude.{◌≡◌, ◌+◌, ◌-◌, ◌<◌, ◌≤◌, cond, length, slice_get, Some};
+ghost use Rattle.std.specs.List.{list_all};
 ghost use Rattle.arrayvec.specs.ArrayVec.{array_vec_len};
 ghost use Rattle.model.specs.Limits.{most_parts};
 ghost use Rattle.model.specs.Query.{named};
 ghost use Rattle.table.specs.Formulas.{stand_in};
-ghost use Rattle.table.specs.Lengths.{Costed, capped, cost_at, cost_from, piece_cost, tag_cost, test_cost};
+ghost use Rattle.table.specs.Lawful.{narrow};
+ghost use Rattle.table.specs.Lengths.{Costed, capped, cost_at, cost_from, piece_cost, tag_cost, test_cost, too_much};
 
 use crate::part::{Part, Tag};
 use crate::role::Role;
@@ -99,14 +101,17 @@ impl<'a> Counted<'a> {
     }
 }
 
-// What the last of the parts counts.
+// What the last of the parts counts, or too much where not all are narrow.
 pub(crate) fn measure(parts: &[Part]) -> usize
     requires some { 1 ≤ length parts.now }
     requires few { length parts.now ≤ most_parts }
-    ensures { result ≡ capped (cost_at parts.now (length parts.now - 1)) }
+    ensures { result ≡ cond (list_all narrow parts.now) (capped (cost_at parts.now (length parts.now - 1))) too_much }
 {
     let mut counted = Counted::none(parts);
     for part in parts {
+        if !part.is_narrow() {
+            return TOO_MUCH;
+        }
         counted.count(*part);
     }
     counted.costs[parts.len() - 1]

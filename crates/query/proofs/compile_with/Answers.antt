@@ -17,5 +17,6 @@ returns g c =
     let new = c.read.new.table in
     let size = c.in_ok-size.size in
     let ranged = g.met.N.Lookup.ranged c.args.names.now in
-    let e = exactly t labels table new (Ok size.steps) (compiled t labels ranged table new size c.read.auto.table c.in_ok-size.ensures.answers) in
-    record { answers = e.answers; only = e.only; written = e.written; small = c.in_ok-size.ensures.small ranged }
+    let small = c.in_ok-size.ensures.small ranged in
+    let e = exactly t labels table new (Ok size.steps) (compiled t labels ranged table new size c.read.auto.table c.in_ok-size.ensures.answers small) in
+    record { answers = e.answers; only = e.only; written = e.written; small = small }
