@@ -1,5 +1,5 @@
 -- Compiled: where labels are ones that elements can have, a table that a text was read into is the checked query of the text.
-use Rattle.std.proofs.Common.{◌≡◌, ℕ, ◌+◌, ◌-◌, ◌≤◌, true, List, [], length, take, drop, Ok, Err, Result, sym, ap, ◌∙◌, arith}
+use Rattle.std.proofs.Common.{◌≡◌, ℕ, ◌+◌, ◌-◌, ◌≤◌, true, List, [], length, take, drop, Ok, Err, Result, sym, ap, ◌∙◌, subst, arith}
 use Rattle.std.proofs.lemmas.Bool.{and_from, le-leb}
 use Rattle.std.proofs.lemmas.List.{drop-drop}
 use Rattle.std.proofs.lemmas.List.Elements.{All-weaker}
@@ -15,7 +15,7 @@ use Rattle.query.specs.declared.QueryFault.{QueryFault}
 use Rattle.query.specs.declared.QuerySize.{QuerySize}
 use Rattle.query.specs.Answers.{Answered, meaning}
 use Rattle.query.specs.Compiled.{Compiled, CompiledAs, ReadsAsWritten}
-use Rattle.query.specs.Small.{Small, SmallParts}
+use Rattle.query.specs.Small.{KeptPast, Small, SmallParts}
 use Rattle.query.proofs.Exact.{one_compiled}
 use Rattle.query.proofs.Known.{path_known}
 
@@ -39,6 +39,9 @@ compiled t labels ranged old new size n (a, named) small =
       holds = holds new (meaning labels f.tree) e f.short (path_known labels ranged f.tree [] f.known) (omega (arith, named, a.few, a.length_is)) (All-weaker Small (λ p. narrow p ≡ true) small_is_narrow (take (parts_in new) new) small);
       kept = past size.places (places size.steps) old new a.few a.kept;
     }
+
+pub kept_past : (old new : List Part) (size : QuerySize) → drop size.places new ≡ drop size.places old → parts_in new ≡ size.places → KeptPast old new
+kept_past old new size e named = subst (λ (n : ℕ). drop n new ≡ drop n old) (sym named) e
 
 reads_as_written : (t : List ℕ) (labels : Labels) (old new : List Part) (r : Result ℕ QueryFault) → CompiledAs t labels old new r → ReadsAsWritten t labels new r
 reads_as_written t labels old new (Err f) a = tt

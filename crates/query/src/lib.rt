@@ -12,7 +12,7 @@ ghost use Rattle.query.specs.Answers.{Answered, steps_of};
 ghost use Rattle.query.specs.Compiled.{CompiledAs, CompiledWith, ReadsAsWritten};
 ghost use Rattle.query.specs.Limits.{Drafted, Limited, Copied};
 ghost use Rattle.query.specs.Refusals.{query_refusal, query_sentence};
-ghost use Rattle.query.specs.Small.{SmallParts, SmallWhereRanged};
+ghost use Rattle.query.specs.Small.{KeptPast, SmallParts, SmallWhereRanged};
 ghost use Rattle.query.specs.Theorems.{AcceptedAsWritten, FittingIsAccepted, OneFault, TablesPartByPart};
 
 use model::fault::{Described, Fault, Layer, Refusal};
@@ -173,6 +173,7 @@ pub fn compile_with<N: Lookup>(
     ensures only { (other : Result ℕ QueryFault) (new : List Part) → CompiledAs text.now (N.labels names.now) table.old new other → other ≡ result }
     ensures written { ReadsAsWritten text.now (N.labels names.now) table.new result }
     ensures small { IfOk result (λ l. SmallParts table.new) }
+    ensures past { IfOk result (λ l. KeptPast table.old table.new) }
 {
     let size = read(text, names, table)?;
     Ok(size.steps)
@@ -184,6 +185,7 @@ pub fn compile(text: &[u8], sheet: &Sheet, table: &mut [Part]) -> Result<usize, 
     ensures only { (other : Result ℕ QueryFault) (new : List Part) → CompiledWith (fault_of sheet.now) text.now (labels_of sheet.now) table.old new other → other ≡ result }
     ensures written { ReadsAsWritten text.now (labels_of sheet.now) table.new result }
     ensures small { IfOk result (λ l. SmallParts table.new) }
+    ensures past { IfOk result (λ l. KeptPast table.old table.new) }
 {
     if let Some(fault) = sheet.fault() {
         return Err(fault.into());

@@ -47,7 +47,7 @@ narrow p = nat_le p.first most_number && nat_le p.second most_number
 abbrev pub fit : List Part → Bool
 fit table = ((nat_le (path_length (reading table)) most_length && path_labelled (reading table)) && nat_le (parts_in table) (places (path_length (reading table)))) && list_all narrow (take (parts_in table) table)
 
--- The query of a table: what its parts read as, or /self::* where they make no lawful query.
+-- The query of a table: what its parts read as, or /self::* where they make no lawful query or are not narrow.
 abbrev pub checked_reading : List Part → Path
 checked_reading table = cond (fit table) (reading table) itself
 

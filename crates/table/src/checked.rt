@@ -85,7 +85,7 @@ impl<'a> CheckedQuery<'a> {
         })
     }
 
-    // The query of a table, whatever it holds: /self::* where its parts make no lawful one.
+    // The query of a table, whatever it holds: /self::* where its parts make no lawful one or have too great a number.
     pub fn over(table: &'a [Part]) -> CheckedQuery<'a>
         ensures reads { reads_as result ≡ checked_reading table.now }
         ensures lawful { LawfulQuery (reads_as result) }

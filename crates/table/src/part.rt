@@ -31,7 +31,7 @@ pub enum Tag {
 }
 
 // The greatest number that a part of a lawful query may have.
-pub const MOST_NUMBER: usize = 65_535;
+const MOST_NUMBER: usize = 65_535;
 
 #[derive(Clone, Copy, PartialEq, Eq, Debug, Default)]
 pub struct Part {
