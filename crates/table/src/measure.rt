@@ -16,6 +16,9 @@ use model::limits::{MOST_LABEL, MOST_LENGTH, MOST_PARTS};
 // Stands for all lengths above the greatest; a number, so that sums go on with it and need no cases.
 const TOO_MUCH: usize = MOST_LENGTH + 1;
 
+// The greatest number that a part of a lawful query may have.
+const MOST_NUMBER: usize = 65_535;
+
 // What stands in where no part serves: self::* counts one step, "*" and the start none.
 fn stand_in_cost(role: Role) -> usize
     ensures { result ≡ capped (piece_cost (stand_in role)) }
@@ -108,11 +111,13 @@ pub(crate) fn measure(parts: &[Part]) -> usize
     ensures { result ≡ cond (list_all narrow parts.now) (capped (cost_at parts.now (length parts.now - 1))) too_much }
 {
     let mut counted = Counted::none(parts);
+    let mut greatest = 0;
     for part in parts {
-        if !part.is_narrow() {
-            return TOO_MUCH;
-        }
+        greatest = part.first.max(part.second).max(greatest);
         counted.count(*part);
+    }
+    if greatest > MOST_NUMBER {
+        return TOO_MUCH;
     }
     counted.costs[parts.len() - 1]
 }

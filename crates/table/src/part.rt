@@ -1,7 +1,4 @@
 // The parts of a query table, one a place, each over parts that stand before it.
-ghost use Rattle.std.specs.Prelude.{◌≡◌};
-ghost use Rattle.table.specs.Lawful.{narrow};
-
 use model::axis::Axis;
 
 // What a part is.
@@ -30,9 +27,6 @@ pub enum Tag {
     Step(Axis),
 }
 
-// The greatest number that a part of a lawful query may have.
-const MOST_NUMBER: usize = 65_535;
-
 #[derive(Clone, Copy, PartialEq, Eq, Debug, Default)]
 pub struct Part {
     // A tag and two numbers in every place: the form in which a table is lent.
@@ -48,11 +42,4 @@ impl Part {
         first: 0,
         second: 0,
     };
-
-    // Whether neither number is above the greatest.
-    pub(crate) fn is_narrow(&self) -> bool
-        ensures { result ≡ narrow self.now }
-    {
-        self.first <= MOST_NUMBER && self.second <= MOST_NUMBER
-    }
 }
