@@ -1,4 +1,4 @@
--- Small: a part's numbers, which are places and labels, are no greater than the greatest label.
+-- Small: a part's numbers, which are places and labels, are no greater than the greatest label; and the places that a text was not read into stay.
 use Rattle.std.specs.Prelude.{◌≡◌, ℕ, ◌≤◌, List, take, drop, IfOk, Result}
 use Rattle.std.specs.List.{All}
 use Rattle.model.specs.Limits.{most_label}

@@ -31,7 +31,7 @@ pub record LawfulQuery (q : Path) : Type 0 where
   pub short : path_length q ≤ most_length
   pub labelled : path_labelled q ≡ true
 
--- the greatest number that a part of a lawful query may have
+-- the greatest number that a part of a checked query may have
 abbrev pub most_number : ℕ
 most_number = 65535
 

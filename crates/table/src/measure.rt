@@ -16,7 +16,7 @@ use model::limits::{MOST_LABEL, MOST_LENGTH, MOST_PARTS};
 // Stands for all lengths above the greatest; a number, so that sums go on with it and need no cases.
 const TOO_MUCH: usize = MOST_LENGTH + 1;
 
-// The greatest number that a part of a lawful query may have.
+// The greatest number that a part of a checked query may have.
 const MOST_NUMBER: usize = 65_535;
 
 // What stands in where no part serves: self::* counts one step, "*" and the start none.
