@@ -218,7 +218,7 @@ mod tests {
         assert_eq!(rt; CheckedQuery::over(&long[..7]).length(), 1);
     }
 
-    // A lawful query's parts have no number above 65,535, used or not; what stands past them may.
+    // A checked query's parts have no number above 65,535, used or not; what stands past them may.
     #[test]
     fn wide_numbers(rt: HostRuntime) {
         let mut table = [
